@@ -5,11 +5,13 @@ ghost use Rattle.wm_graph.specs.Parts.{parts_of};
 ghost use Rattle.wm_graph.specs.Rules.{keep_rules};
 ghost use Rattle.wm_prices.specs.Prices.{Costs, Spends};
 ghost use Rattle.wm_state.specs.ById.{Ascend, applied};
-ghost use Rattle.wm_state.specs.Drafts.{CanDraft, CanEdit, CanWork, Drafts, DraftsBy};
+ghost use Rattle.wm_state.specs.Drafts.{CanDraft, CanEdit, CanWork, Drafts, DraftsBy, followed_by};
 
 use crate::followed::followed_by;
 use std::alloc::Global;
+use std::mem::replace;
 use wm_append::append::append;
+use wm_base::Memory;
 use wm_changes::DraftFault;
 use wm_changes::copies::change_copies;
 use wm_image::Image;
@@ -46,7 +48,11 @@ fn draft_one(
             name,
             valid,
             history,
-        } => Ok(enable(alloc, image, moment, work, &name, valid, history)?),
+        } => {
+            let enabled = enable(alloc, image, moment, work, &name, valid, history);
+            drop(name);
+            Ok(enabled?)
+        }
         Edit::Append { space, entries } => append(alloc, image, moment, work, space, entries),
         Edit::Save { space, name } => save(alloc, image, moment, work, space, name),
         Edit::Bear { parent, at, name } => bear(alloc, image, moment, work, parent, at, name),
@@ -60,9 +66,83 @@ fn draft_one(
     }
 }
 
-/// What the edits of a line at a moment make of the records. The changes of all edits but the last are applied to the
-/// image, so that each is drafted of what the ones before it left. Each adds work, since the numbers of versions and the
-/// makings of savepoints are held to it: the first the line's work less 1 for each other one, each other one 1.
+/// The image goes on to what changes make of it.
+fn go_on(alloc: Global, image: &mut Image, changes: &Changes) -> Result<(), Memory>
+    ensures { OnOk result (image.new ≡ applied changes.now image.old) }
+{
+    let copies = change_copies(alloc, changes)?;
+    image.apply(alloc, Batch { changes: copies })?;
+    Ok(())
+}
+
+/// Drafts one edit more: the image goes on to what the changes of the last edit make of it, they come behind those in
+/// front, and the edit is the last. It adds work of 1.
+fn draft_next(
+    alloc: Global,
+    image: &mut Image,
+    moment: u64,
+    front: &mut Changes,
+    last: &mut Changes,
+    edit: Edit,
+) -> Result<(), DraftFault>
+    requires rules { keep_rules (parts_of (applied last.old image.old)) ≡ true }
+    requires work { CanWork (parts_of (applied last.old image.old)) moment 1 }
+    requires can { CanEdit (parts_of (applied last.old image.old)) moment edit }
+    ensures image { OnOk result (image.new ≡ applied last.old image.old) }
+    ensures front { OnOk result (front.new ≡ followed_by front.old last.old) }
+    ensures drafts { OnOk result (DraftsBy 1 image.new moment (edit ∷ []) last.new) }
+    ensures costs { OnOk result (Costs image.new edit (applied last.new image.new)) }
+    ensures full { IfErr result (λ fault. fault ≡ DraftFault.Ids → HasGreatId image.new) }
+{
+    if let Err(fault) = go_on(alloc, image, last) {
+        drop(edit);
+        return Err(fault.into());
+    }
+    let newest = draft_one(alloc, image, moment, 1, edit)?;
+    let later = replace(last, newest);
+    let earlier = replace(front, Changes::new(alloc));
+    let both = followed_by(alloc, earlier, later)?;
+    *front = both;
+    Ok(())
+}
+
+/// What the edits of a line at a moment make of the records: the changes of the last edit, and in front of them those of
+/// all others. These are applied to the image, so that each edit is drafted of what the ones before it left. Each adds
+/// work, since the numbers of versions and the makings of savepoints are held to it: the first the line's work less 1
+/// for each other one, each other one 1.
+fn draft_each(
+    alloc: Global,
+    image: &mut Image,
+    moment: u64,
+    front: &mut Changes,
+    last: &mut Changes,
+    edits: Vec<Edit>,
+) -> Result<(), DraftFault>
+    requires sorted { Ascend image.old }
+    requires rules { keep_rules (parts_of image.old) ≡ true }
+    requires can { CanDraft image.old moment edits.items }
+    requires front { front.old ≡ [] }
+    requires last { last.old ≡ [] }
+    ensures drafts { OnOk result (Drafts image.old moment edits.items (followed_by front.new last.new)) }
+    ensures spends { OnOk result (Spends moment image.old edits.items (applied (followed_by front.new last.new) image.old)) }
+    ensures rest { OnOk result (applied (followed_by front.new last.new) image.new ≡ applied (followed_by front.new last.new) image.old) }
+    ensures one { length edits.items ≤ 1 → OnOk result (image.new ≡ image.old) }
+    ensures full { IfErr result (λ fault. fault ≡ DraftFault.Ids → HasGreatId image.new) }
+{
+    let mut edits = edits.into_iter();
+    let Some(first) = edits.next() else {
+        return Ok(());
+    };
+    let work = LINE_WORK - edits.len() as u64;
+    let drafted = draft_one(alloc, image, moment, work, first)?;
+    *last = drafted;
+    for edit in edits {
+        draft_next(alloc, image, moment, front, last, edit)?;
+    }
+    Ok(())
+}
+
+/// What the edits of a line at a moment make of the records.
 fn draft_all(
     alloc: Global,
     image: &mut Image,
@@ -78,18 +158,12 @@ fn draft_all(
     ensures one { length edits.items ≤ 1 → OnOk result (image.new ≡ image.old) }
     ensures full { IfErr result (λ fault. fault ≡ DraftFault.Ids → HasGreatId image.new) }
 {
-    let mut edits = edits.into_iter();
-    let Some(first) = edits.next() else {
-        return Ok(Changes::new(alloc));
-    };
-    let work = LINE_WORK - edits.len() as u64;
     let mut front = Changes::new(alloc);
-    let mut last = draft_one(alloc, image, moment, work, first)?;
-    for edit in edits {
-        let copies = change_copies(alloc, &last)?;
-        image.apply(alloc, Batch { changes: copies })?;
-        front = followed_by(alloc, front, last)?;
-        last = draft_one(alloc, image, moment, 1, edit)?;
+    let mut last = Changes::new(alloc);
+    if let Err(fault) = draft_each(alloc, image, moment, &mut front, &mut last, edits) {
+        drop(front);
+        drop(last);
+        return Err(fault);
     }
     let changes = followed_by(alloc, front, last)?;
     Ok(changes)

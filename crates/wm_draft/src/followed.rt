@@ -1,8 +1,9 @@
 //! Changes behind others.
-ghost use Rattle.std.specs.Prelude.{◌≡◌, ℕ, IfOk};
+ghost use Rattle.std.specs.Prelude.{◌≡◌, ◌++◌, ℕ, not, IfOk, OnOk};
 ghost use Rattle.std.specs.BTreeSet.{contains};
-ghost use Rattle.std.specs.List.{list_any};
+ghost use Rattle.std.specs.List.{filter, list_any};
 ghost use Rattle.std.specs.Ordering.{nat_cmp};
+ghost use Rattle.wm_spec.specs.declared.record.batch.Change.{Change as OneChange};
 ghost use Rattle.wm_state.specs.Drafts.{followed_by, is_change_of};
 
 use std::alloc::Global;
@@ -21,22 +22,63 @@ fn ids_of(alloc: Global, changes: &[Change]) -> Result<BTreeSet<u64>, Memory>
     Ok(ids)
 }
 
+/// Puts changes behind others, but for those of some ids.
+fn push_others(all: &mut Changes, changes: Vec<Change>, ids: &BTreeSet<u64>) -> Result<(), Memory>
+    ensures { OnOk result (all.new ≡ all.old ++ filter (λ (c : OneChange). not (contains nat_cmp ids.now c.id)) changes.items) }
+{
+    for change in changes {
+        if ids.contains(&change.id) {
+            drop(change);
+        } else {
+            all.push(change)?;
+        }
+    }
+    Ok(())
+}
+
+/// Puts changes behind others, and behind them later ones, which take the place of those of their ids.
+fn push_both(
+    alloc: Global,
+    all: &mut Changes,
+    changes: Changes,
+    later: Changes,
+) -> Result<(), Memory>
+    ensures { OnOk result (all.new ≡ all.old ++ followed_by changes later) }
+{
+    let ids = match ids_of(alloc, later.as_slice()) {
+        Ok(ids) => ids,
+        Err(fault) => {
+            drop(changes);
+            drop(later);
+            return Err(fault);
+        }
+    };
+    let said = push_others(all, changes.into_vec(), &ids);
+    drop(ids);
+    match said {
+        // All of the later ones.
+        Ok(()) => push_others(all, later.into_vec(), &BTreeSet::new(alloc)),
+        Err(fault) => {
+            drop(later);
+            Err(fault)
+        }
+    }
+}
+
 /// Changes and behind them later ones, which take the place of those of their ids.
 pub fn followed_by(alloc: Global, changes: Changes, later: Changes) -> Result<Changes, Memory>
     ensures { IfOk result (λ all. all ≡ followed_by changes later) }
 {
     if changes.as_slice().is_empty() {
+        drop(changes);
         return Ok(later);
     }
-    let ids = ids_of(alloc, later.as_slice())?;
     let mut all = Changes::new(alloc);
-    for change in changes.into_vec() {
-        if !ids.contains(&change.id) {
-            all.push(change)?;
+    match push_both(alloc, &mut all, changes, later) {
+        Ok(()) => Ok(all),
+        Err(fault) => {
+            drop(all);
+            Err(fault)
         }
     }
-    for change in later.into_vec() {
-        all.push(change)?;
-    }
-    Ok(all)
 }

@@ -21,8 +21,8 @@ returns-in-Bear-clause-costs c = rw c.in-Bear.is (says_nothing c.bear.result)
 pub returns-in-Restore-clause-costs : goal.returns-in-Restore-clause-costs
 returns-in-Restore-clause-costs c = rw c.in-Restore.is (says_nothing c.restore.result)
 
-pub returns-in_ok-enable-in-Enable-clause-costs : goal.returns-in_ok-enable-in-Enable-clause-costs
-returns-in_ok-enable-in-Enable-clause-costs c = rw c.in-Enable.is tt
+pub returns-in_ok-enabled-in-Enable-clause-costs : goal.returns-in_ok-enabled-in-Enable-clause-costs
+returns-in_ok-enabled-in-Enable-clause-costs c = rw c.in-Enable.is tt
 
 pub returns-in_ok-remove-in-Remove-clause-costs : goal.returns-in_ok-remove-in-Remove-clause-costs
 returns-in_ok-remove-in-Remove-clause-costs c = rw c.in-Remove.is tt
