@@ -41,11 +41,14 @@ pub fn written(
     ensures { IfOk result (AreWritten image.now front counters space id made.dropped.items made.news.items) }
 {
     let space_id = image.id_of_space(space.number).unwrap();
+    let Made { dropped, news } = made;
     let mut changes = front;
     changes.push(put(image.id_of_counters(), Record::Counters(counters)))?;
     changes.push(put(space_id, Record::Space(space)))?;
-    drop_all(&mut changes, made.dropped.as_slice())?;
-    put_all(&mut changes, id, made.news)?;
+    let said = drop_all(&mut changes, dropped.as_slice());
+    drop(dropped);
+    said?;
+    put_all(&mut changes, id, news)?;
     Ok(changes)
 }
 
@@ -69,10 +72,10 @@ fn append_here(
 {
     let count = entries.len() as u64;
     let counters = stepped_by(image.counters(), moment, work, count);
-    let longer = longer_by(alloc, count, space)?;
     let version = image.latest(space.number);
     let made = draw_entries(alloc, image, space, version, entries)?;
     let id = ids_from(image, made.news.len() as u64)?;
+    let longer = longer_by(alloc, count, space)?;
     let front = Changes::new(alloc);
     let changes = written(image, front, counters, longer, id, made)?;
     Ok(changes)
@@ -113,10 +116,10 @@ fn append_above(
     };
     let number = version.number;
     let counters = stepped_new_by(old, moment, work, count);
-    let longer = longer_by(alloc, count, space)?;
     let made = draw_entries(alloc, image, space, number, entries)?;
     let id = ids_from(image, made.news.len() as u64 + 1)?;
     let front = version_changes(alloc, id, version)?;
+    let longer = longer_by(alloc, count, space)?;
     let changes = written(image, front, counters, longer, id + 1, made)?;
     Ok(changes)
 }

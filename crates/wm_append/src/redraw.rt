@@ -58,20 +58,20 @@ fn push_drawn(
     Ok(())
 }
 
-/// The records of some ids as pieces.
-fn pieces_at(
+/// Puts the records of some ids as pieces behind others.
+fn push_pieces_at(
     alloc: Global,
     image: &Image,
     layer: Layer,
+    pieces: &mut Vec<PieceRecord>,
     ids: &[u64],
-) -> Result<Vec<PieceRecord>, Memory>
-    ensures { IfOk result (λ pieces. pieces.items ≡ kind_at (view_of layer) image.now ids.now) }
+) -> Result<(), Memory>
+    ensures { OnOk result (pieces.new.items ≡ pieces.old.items ++ kind_at (view_of layer) image.now ids.now) }
 {
-    let mut pieces = Vec::new(alloc);
     for id in ids {
-        push_drawn(alloc, &mut pieces, image.record(*id), layer)?;
+        push_drawn(alloc, pieces, image.record(*id), layer)?;
     }
-    Ok(pieces)
+    Ok(())
 }
 
 /// Puts pieces behind others.
@@ -192,9 +192,10 @@ fn lay(
         mut hand,
     } = draft;
     let (met, left) = part_ids(alloc, image, layer, &new, left)?;
-    let under = pieces_at(alloc, image, layer, met.as_slice())?;
-    append(&mut hand, under)?;
-    dropped.extend_from_slice(met.as_slice())?;
+    push_pieces_at(alloc, image, layer, &mut hand, met.as_slice())?;
+    let said = dropped.extend_from_slice(met.as_slice());
+    drop(met);
+    said?;
     let hand = lay_over(alloc, new, hand)?;
     Ok(Draft {
         dropped,

@@ -70,6 +70,67 @@ fn push_hist(
     Ok(())
 }
 
+/// Puts behind others what a log keeps of an entry, and as a piece the cells that it touches.
+fn push_traces(
+    alloc: Global,
+    hists: &mut Vec<Record>,
+    marks: &mut Vec<PieceRecord>,
+    target: Target,
+    position: u64,
+    entry: &NewEntry,
+) -> Result<(), Memory>
+    ensures marks { OnOk result (marks.new.items ≡ marks.old.items ++ marks_of target.place position (entry_of entry.now ∷ [])) }
+    ensures hists { OnOk result (hists.new.items ≡ hists.old.items ++ map records.Hist (hists_if target.history target.space position (entry_of entry.now ∷ []))) }
+{
+    push_hist(alloc, hists, target, position, entry)?;
+    marks.push(PieceRecord {
+        version: u64::from(target.place),
+        cells: cells_of(entry.table, entry.key.copy(alloc)?, entry.period),
+        stamp: position,
+        kind: Kind::Insert,
+        gone: false,
+    })?;
+    Ok(())
+}
+
+/// Puts behind others the new row of an entry, where it has one, and the piece of it that a version has.
+fn push_own(
+    rows: &mut Vec<Record>,
+    pieces: &mut Vec<PieceRecord>,
+    version: u64,
+    entry: NewEntry,
+) -> Result<(), Memory>
+    ensures rows { OnOk result (rows.new.items ≡ rows.old.items ++ map records.Row (rows_in (entry_of entry ∷ []))) }
+    ensures pieces { OnOk result (pieces.new.items ≡ pieces.old.items ++ piece_of version (entry_of entry) ∷ []) }
+{
+    let NewEntry {
+        table,
+        key,
+        period,
+        row,
+        stamp,
+        kind,
+        moment: _,
+        user,
+    } = entry;
+    drop(user);
+    pieces.push(PieceRecord {
+        version,
+        cells: cells_of(table, key, period),
+        stamp,
+        kind,
+        gone: row.is_none(),
+    })?;
+    if let Some(values) = row {
+        rows.push(Record::Row(RowRecord {
+            stamp,
+            table,
+            values,
+        }))?;
+    }
+    Ok(())
+}
+
 /// Adds the records of an entry, which has a position in the log of a workspace.
 pub fn add_entry(
     alloc: Global,
@@ -83,39 +144,19 @@ pub fn add_entry(
     ensures marks { OnOk result (entered.new.marks.items ≡ entered.old.marks.items ++ marks_of target.place position (entry_of entry ∷ [])) }
     ensures hists { OnOk result (entered.new.hists.items ≡ entered.old.hists.items ++ map records.Hist (hists_if target.history target.space position (entry_of entry ∷ []))) }
 {
-    push_hist(alloc, &mut entered.hists, target, position, &entry)?;
-    let NewEntry {
-        table,
-        key,
-        period,
-        row,
-        stamp,
-        kind,
-        moment: _,
-        user: _,
-    } = entry;
-    entered.marks.push(PieceRecord {
-        version: u64::from(target.place),
-        cells: cells_of(table, key.copy(alloc)?, period),
-        stamp: position,
-        kind: Kind::Insert,
-        gone: false,
-    })?;
-    entered.pieces.push(PieceRecord {
-        version: target.version,
-        cells: cells_of(table, key, period),
-        stamp,
-        kind,
-        gone: row.is_none(),
-    })?;
-    if let Some(values) = row {
-        entered.rows.push(Record::Row(RowRecord {
-            stamp,
-            table,
-            values,
-        }))?;
+    let hists = &mut entered.hists;
+    match push_traces(alloc, hists, &mut entered.marks, target, position, &entry) {
+        Ok(()) => push_own(
+            &mut entered.rows,
+            &mut entered.pieces,
+            target.version,
+            entry,
+        ),
+        Err(fault) => {
+            drop(entry);
+            Err(fault)
+        }
     }
-    Ok(())
 }
 
 /// The records of entries of one table, whose positions in the log of their workspace follow one another from this one on.

@@ -10,7 +10,7 @@ ghost use Rattle.wm_state.specs.Editing.{entry_of};
 ghost use Rattle.wm_state.specs.Standing.{has_history};
 ghost use Rattle.wm_state.specs.Touching.{trace_at};
 
-use crate::append::entered::{Target, enter};
+use crate::append::entered::{Entered, Target, enter};
 use crate::redraw::{Layer, redraw};
 use std::alloc::Global;
 use wm_base::Memory;
@@ -75,6 +75,26 @@ pub fn push_all(news: &mut Vec<Record>, more: Vec<Record>) -> Result<(), Memory>
     Ok(())
 }
 
+/// Puts pieces as touches of a workspace at a place behind other records, and behind them what its log keeps.
+pub fn push_traced(
+    news: &mut Vec<Record>,
+    space: u32,
+    place: u32,
+    drawn: Vec<PieceRecord>,
+    hists: Vec<Record>,
+) -> Result<(), Memory>
+    ensures { OnOk result (news.new.items ≡ news.old.items ++ map records.Touch (map (trace_at space place) drawn.items) ++ hists.items) }
+{
+    let said = push_touches(news, space, place, drawn);
+    match said {
+        Ok(()) => push_all(news, hists),
+        Err(fault) => {
+            drop(hists);
+            Err(fault)
+        }
+    }
+}
+
 /// What goes and what comes where entries come into a version of a workspace, at the last place that was given there and
 /// behind its log.
 pub fn draw_entries(
@@ -97,14 +117,21 @@ pub fn draw_entries(
         history: has_history(image, entries[0].table),
     };
     let entered = enter(alloc, target, space.log_length, entries)?;
-    let layer = Layer::Touches(space.number);
-    let pieces = redraw(alloc, image, Layer::Pieces, version, entered.pieces)?;
-    let touches = redraw(alloc, image, layer, u64::from(place), entered.marks)?;
-    let mut news = entered.rows;
+    let Entered {
+        rows,
+        pieces: own,
+        marks,
+        hists,
+    } = entered;
+    let mut news = rows;
+    let pieces = redraw(alloc, image, Layer::Pieces, version, own)?;
     push_pieces(&mut news, pieces.drawn)?;
-    push_touches(&mut news, space.number, place, touches.drawn)?;
-    push_all(&mut news, entered.hists)?;
+    let layer = Layer::Touches(space.number);
+    let touches = redraw(alloc, image, layer, u64::from(place), marks)?;
+    push_traced(&mut news, space.number, place, touches.drawn, hists)?;
     let mut dropped = pieces.dropped;
-    dropped.extend_from_slice(touches.dropped.as_slice())?;
+    let said = dropped.extend_from_slice(touches.dropped.as_slice());
+    drop(touches.dropped);
+    said?;
     Ok(Made { dropped, news })
 }
