@@ -12,7 +12,8 @@ ghost use Rattle.wm_state.specs.declared.edit.Edit.TheVariants as edits;
 
 use crate::entered::enter;
 use std::alloc::Global;
-use wm_append::append::made::{Made, push_all, push_touches};
+use wm_append::append::entered::Entered;
+use wm_append::append::made::{Made, push_traced};
 use wm_append::append::written;
 use wm_append::redraw::{Layer, redraw};
 use wm_changes::DraftFault;
@@ -40,24 +41,26 @@ pub fn gain(
 {
     let old = image.space(space).unwrap();
     let counters = moved(image.counters(), moment, work);
-    let longer = longer_by(alloc, entries.len() as u64, old)?;
+    let count = entries.len() as u64;
     let place = old.next_place - 1;
     let entered = enter(alloc, image, old, 0, entries)?;
-    let touches = redraw(
-        alloc,
-        image,
-        Layer::Touches(space),
-        u64::from(place),
-        entered.marks,
-    )?;
+    let Entered {
+        rows,
+        pieces,
+        marks,
+        hists,
+    } = entered;
+    drop(rows);
+    drop(pieces);
+    let touches = redraw(alloc, image, Layer::Touches(space), u64::from(place), marks)?;
     let mut news = Vec::new(alloc);
-    push_touches(&mut news, space, place, touches.drawn)?;
-    push_all(&mut news, entered.hists)?;
+    push_traced(&mut news, space, place, touches.drawn, hists)?;
     let made = Made {
         dropped: touches.dropped,
         news,
     };
     let id = ids_from(image, made.news.len() as u64)?;
+    let longer = longer_by(alloc, count, old)?;
     let changes = written(image, Changes::new(alloc), counters, longer, id, made)?;
     Ok(changes)
 }

@@ -145,11 +145,13 @@ pub fn rebase(
         rebases: parent.rebases,
     };
     let mut news = first_news(alloc, version, turn)?;
-    push_keys(alloc, &mut news, before.next_version, own.as_slice())?;
+    let said = push_keys(alloc, &mut news, before.next_version, own.as_slice());
+    drop(own);
+    said?;
     let counters = versioned(before, moment, work);
-    let new = rebased_on(alloc, base_version, parent.log_length, old)?;
     let id = ids_from(image, news.len() as u64)?;
     let dropped = mark_ids(alloc, image, space)?;
+    let new = rebased_on(alloc, base_version, parent.log_length, old)?;
     let made = Made { dropped, news };
     let changes = written(image, Changes::new(alloc), counters, new, id, made)?;
     Ok(changes)

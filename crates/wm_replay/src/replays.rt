@@ -12,7 +12,8 @@ ghost use Rattle.wm_state.specs.declared.edit.Edit.TheVariants as edits;
 
 use crate::entered::enter;
 use std::alloc::Global;
-use wm_append::append::made::{Made, push_all, push_pieces, push_touches};
+use wm_append::append::entered::Entered;
+use wm_append::append::made::{Made, push_pieces, push_traced};
 use wm_append::append::{version_changes, written};
 use wm_append::redraw::{Layer, redraw};
 use wm_changes::DraftFault;
@@ -47,26 +48,27 @@ pub fn replay(
         parent: image.latest(space),
     };
     let counters = versioned(before, moment, work);
-    let longer = longer_by(alloc, entries.len() as u64, old)?;
+    let count = entries.len() as u64;
     let place = old.next_place - 1;
     let entered = enter(alloc, image, old, before.next_version, entries)?;
-    let touches = redraw(
-        alloc,
-        image,
-        Layer::Touches(space),
-        u64::from(place),
-        entered.marks,
-    )?;
+    let Entered {
+        rows,
+        pieces,
+        marks,
+        hists,
+    } = entered;
+    drop(rows);
     let mut news = Vec::new(alloc);
-    push_pieces(&mut news, entered.pieces)?;
-    push_touches(&mut news, space, place, touches.drawn)?;
-    push_all(&mut news, entered.hists)?;
+    push_pieces(&mut news, pieces)?;
+    let touches = redraw(alloc, image, Layer::Touches(space), u64::from(place), marks)?;
+    push_traced(&mut news, space, place, touches.drawn, hists)?;
     let made = Made {
         dropped: touches.dropped,
         news,
     };
     let id = ids_from(image, made.news.len() as u64 + 1)?;
     let front = version_changes(alloc, id, version)?;
+    let longer = longer_by(alloc, count, old)?;
     let changes = written(image, front, counters, longer, id + 1, made)?;
     Ok(changes)
 }

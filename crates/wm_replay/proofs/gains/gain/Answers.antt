@@ -1,4 +1,4 @@
-use Rattle.std.proofs.Common.{◌-◌, ◌++◌, List, map, subst, sym, ap, ◌∙◌}
+use Rattle.std.proofs.Common.{◌-◌, ◌++◌, List, map, refl, subst, sym, ap, ◌∙◌}
 use Rattle.wm_append.proofs.TwoLayers.{touches_apart}
 use Rattle.wm_append.proofs.Written.{counted_as}
 use Rattle.wm_append.specs.Layers.{touch_in}
@@ -35,7 +35,7 @@ redraw-requires-clause-news c =
 pub written-requires-clause-there : goal.written-requires-clause-there
 written-requires-clause-there c =
     let k = known c.args.image.now c.args.space c.space.result c.unwrap-old.result c.requires.rules c.unwrap-old.ensures c.space.ensures in
-    there_longer c.args.image.now c.args.space c.len.result c.unwrap-old.result.now c.in_ok-longer.longer k.found c.in_ok-longer.ensures
+    there_longer c.args.image.now c.args.space c.len-count.result c.unwrap-old.result.now c.in_ok-longer.longer k.found c.in_ok-longer.ensures
 
 pub returns-clause-drafts : goal.returns-clause-drafts
 returns-clause-drafts c =
@@ -43,15 +43,15 @@ returns-clause-drafts c =
     let drawn = c.in_ok-touches.touches.drawn.items in
     let dropped = c.in_ok-touches.touches.dropped.items in
     let k = known c.args.image.now c.args.space c.space.result c.unwrap-old.result c.requires.rules c.unwrap-old.ensures c.space.ensures in
-    drafts_gaining c.args.image.now c.args.moment c.args.work c.args.space place c.in_ok-id.id c.len.result c.args.entries c.unwrap-old.result.now c.in_ok-longer.longer c.counters.result c.moved-counters.result c.new.result c.in_ok-changes.changes drawn dropped
-    c.in_ok-entered.entered.hists.items c.push_all.new.news.items c.requires.rules c.requires.work c.requires.can k.found c.counters.ensures c.in_ok-id.ensures.above k.last c.moved-counters.ensures (counted_as c.args.entries c.len.result c.len.ensures)
+    drafts_gaining c.args.image.now c.args.moment c.args.work c.args.space place c.in_ok-id.id c.len-count.result c.args.entries c.unwrap-old.result.now c.in_ok-longer.longer c.counters.result c.moved-counters.result c.new.result c.in_ok-changes.changes drawn dropped
+    c.in_ok-entered.entered.hists.items c.push_traced.new.news.items c.requires.rules c.requires.work c.requires.can k.found c.counters.ensures c.in_ok-id.ensures.above k.last c.moved-counters.ensures (counted_as c.args.entries c.len-count.result c.len-count.ensures)
     c.in_ok-longer.ensures c.new.ensures
     (subst (λ (marks : List PieceRecord). IsRedrawn (touch_in c.args.space) c.args.image.now marks dropped drawn) (c.in_ok-entered.ensures.marks place k.last) c.in_ok-touches.ensures.redrawn)
     (record {
-      touches = c.push_touches.new.news.items;
-      first = c.in_ok-push_touches.ensures ∙ ap (λ (rs : List Record). rs ++ map records.Touch (map (trace_at c.args.space place) drawn)) c.new-news.ensures.items;
+      touches = map records.Touch (map (trace_at c.args.space place) drawn);
+      first = refl;
       kept = c.in_ok-entered.ensures.hists;
-      behind = c.in_ok-push_all.ensures;
+      behind = c.in_ok-push_traced.ensures ∙ ap (λ (rs : List Record). rs ++ map records.Touch (map (trace_at c.args.space place) drawn) ++ c.in_ok-entered.entered.hists.items) c.new-news.ensures.items;
     })
     c.in_ok-changes.ensures
 
@@ -62,13 +62,13 @@ returns-clause-costs c =
     let dropped = c.in_ok-touches.touches.dropped.items in
     let k = known c.args.image.now c.args.space c.space.result c.unwrap-old.result c.requires.rules c.unwrap-old.ensures c.space.ensures in
     let marks = c.in_ok-entered.ensures.marks place k.last in
-    gain_costs c.args.image.now c.args.space place c.in_ok-id.id c.len.result c.args.entries c.unwrap-old.result.now c.in_ok-longer.longer c.moved-counters.result c.new.result c.in_ok-changes.changes c.in_ok-entered.entered.marks.items drawn dropped
-    c.in_ok-entered.entered.hists.items c.push_all.new.news.items k.found c.in_ok-longer.ensures c.new.ensures marks
+    gain_costs c.args.image.now c.args.space place c.in_ok-id.id c.len-count.result c.args.entries c.unwrap-old.result.now c.in_ok-longer.longer c.moved-counters.result c.new.result c.in_ok-changes.changes c.in_ok-entered.entered.marks.items drawn dropped
+    c.in_ok-entered.entered.hists.items c.push_traced.new.news.items k.found c.in_ok-longer.ensures c.new.ensures marks
     (subst (λ (xs : List PieceRecord). IsRedrawn (touch_in c.args.space) c.args.image.now xs dropped drawn) marks c.in_ok-touches.ensures.redrawn) c.in_ok-touches.ensures.few
     (record {
-      touches = c.push_touches.new.news.items;
-      first = c.in_ok-push_touches.ensures ∙ ap (λ (rs : List Record). rs ++ map records.Touch (map (trace_at c.args.space place) drawn)) c.new-news.ensures.items;
+      touches = map records.Touch (map (trace_at c.args.space place) drawn);
+      first = refl;
       kept = c.in_ok-entered.ensures.hists;
-      behind = c.in_ok-push_all.ensures;
+      behind = c.in_ok-push_traced.ensures ∙ ap (λ (rs : List Record). rs ++ map records.Touch (map (trace_at c.args.space place) drawn) ++ c.in_ok-entered.entered.hists.items) c.new-news.ensures.items;
     })
     c.in_ok-changes.ensures

@@ -12,6 +12,7 @@ use Rattle.wm_spec.specs.declared.record.Record.{Record}
 use Rattle.wm_spec.specs.declared.record.Record.TheVariants as records
 use Rattle.wm_spec.specs.declared.record.piece.PieceRecord.{PieceRecord}
 use Rattle.wm_state.specs.Editing.{entry_of}
+use Rattle.wm_state.specs.Touching.{trace_at}
 use Rattle.wm_replay.proofs.Priced.{replay_costs, replay_unmarked}
 use Rattle.wm_written.proofs.DraftedWritten.{entries_in}
 use Rattle.wm_replay.proofs.replays.replay.Goals as goal
@@ -39,7 +40,7 @@ redraw-requires-clause-news c =
 pub written-requires-clause-there : goal.written-requires-clause-there
 written-requires-clause-there c =
     let k = known c.args.image.now c.args.space c.space.result c.unwrap-old.result c.requires.rules c.unwrap-old.ensures c.space.ensures in
-    there_longer c.args.image.now c.args.space c.len.result c.unwrap-old.result.now c.in_ok-longer.longer k.found c.in_ok-longer.ensures
+    there_longer c.args.image.now c.args.space c.len-count.result c.unwrap-old.result.now c.in_ok-longer.longer k.found c.in_ok-longer.ensures
 
 pub returns-clause-drafts : goal.returns-clause-drafts
 returns-clause-drafts c =
@@ -48,16 +49,16 @@ returns-clause-drafts c =
     let dropped = c.in_ok-touches.touches.dropped.items in
     let pieces = c.in_ok-entered.entered.pieces.items in
     let k = known c.args.image.now c.args.space c.space.result c.unwrap-old.result c.requires.rules c.unwrap-old.ensures c.space.ensures in
-    drafts_replaying c.args.image.now c.args.moment c.args.work c.args.space place c.in_ok-id.id (c.in_ok-id.id + 1) c.latest.result c.len.result c.args.entries c.unwrap-old.result.now c.in_ok-longer.longer c.counters-before.result
-    c.versioned-counters.result c.in_ok-front.front c.in_ok-changes.changes drawn pieces dropped c.in_ok-entered.entered.hists.items c.push_pieces.new.news.items c.push_all.new.news.items c.requires.rules c.requires.work c.requires.can k.found
-    c.counters-before.ensures c.in_ok-id.ensures.above refl k.last c.versioned-counters.ensures (counted_as c.args.entries c.len.result c.len.ensures) c.in_ok-longer.ensures c.in_ok-front.ensures c.latest.ensures c.in_ok-entered.ensures.pieces
+    drafts_replaying c.args.image.now c.args.moment c.args.work c.args.space place c.in_ok-id.id (c.in_ok-id.id + 1) c.latest.result c.len-count.result c.args.entries c.unwrap-old.result.now c.in_ok-longer.longer c.counters-before.result
+    c.versioned-counters.result c.in_ok-front.front c.in_ok-changes.changes drawn pieces dropped c.in_ok-entered.entered.hists.items c.push_pieces.new.news.items c.push_traced.new.news.items c.requires.rules c.requires.work c.requires.can k.found
+    c.counters-before.ensures c.in_ok-id.ensures.above refl k.last c.versioned-counters.ensures (counted_as c.args.entries c.len-count.result c.len-count.ensures) c.in_ok-longer.ensures c.in_ok-front.ensures c.latest.ensures c.in_ok-entered.ensures.pieces
     (c.in_ok-push_pieces.ensures ∙ ap (λ (rs : List Record). rs ++ map records.Piece pieces) c.new-news.ensures.items)
     (subst (λ (marks : List PieceRecord). IsRedrawn (touch_in c.args.space) c.args.image.now marks dropped drawn) (c.in_ok-entered.ensures.marks place k.last) c.in_ok-touches.ensures.redrawn)
     (record {
-      touches = c.push_touches.new.news.items;
-      first = c.in_ok-push_touches.ensures;
+      touches = c.push_pieces.new.news.items ++ map records.Touch (map (trace_at c.args.space place) drawn);
+      first = refl;
       kept = c.in_ok-entered.ensures.hists;
-      behind = c.in_ok-push_all.ensures;
+      behind = c.in_ok-push_traced.ensures;
     })
     c.in_ok-changes.ensures
 
@@ -70,17 +71,17 @@ returns-clause-costs c =
     let k = known c.args.image.now c.args.space c.space.result c.unwrap-old.result c.requires.rules c.unwrap-old.ensures c.space.ensures in
     let marks = c.in_ok-entered.ensures.marks place k.last in
     let first : c.push_pieces.new.news.items ≡ map records.Piece pieces = c.in_ok-push_pieces.ensures ∙ ap (λ (rs : List Record). rs ++ map records.Piece pieces) c.new-news.ensures.items in
-    let comes : Comes c.args.image.now c.args.space place c.unwrap-old.result.now (entries_in c.args.entries) drawn c.in_ok-entered.entered.hists.items c.push_pieces.new.news.items c.push_all.new.news.items =
+    let comes : Comes c.args.image.now c.args.space place c.unwrap-old.result.now (entries_in c.args.entries) drawn c.in_ok-entered.entered.hists.items c.push_pieces.new.news.items c.push_traced.new.news.items =
     record {
-      touches = c.push_touches.new.news.items;
-      first = c.in_ok-push_touches.ensures;
+      touches = c.push_pieces.new.news.items ++ map records.Touch (map (trace_at c.args.space place) drawn);
+      first = refl;
       kept = c.in_ok-entered.ensures.hists;
-      behind = c.in_ok-push_all.ensures;
+      behind = c.in_ok-push_traced.ensures;
     } in (
-      replay_costs c.args.image.now c.args.space place (c.in_ok-id.id + 1) c.len.result c.counters-before.result.next_version c.args.entries c.unwrap-old.result.now c.in_ok-longer.longer c.versioned-counters.result _ c.in_ok-front.front
-          c.in_ok-changes.changes c.in_ok-entered.entered.marks.items drawn pieces dropped c.in_ok-entered.entered.hists.items c.push_pieces.new.news.items c.push_all.new.news.items k.found c.in_ok-longer.ensures c.in_ok-front.ensures marks
+      replay_costs c.args.image.now c.args.space place (c.in_ok-id.id + 1) c.len-count.result c.counters-before.result.next_version c.args.entries c.unwrap-old.result.now c.in_ok-longer.longer c.versioned-counters.result _ c.in_ok-front.front
+          c.in_ok-changes.changes c.in_ok-entered.entered.marks.items drawn pieces dropped c.in_ok-entered.entered.hists.items c.push_pieces.new.news.items c.push_traced.new.news.items k.found c.in_ok-longer.ensures c.in_ok-front.ensures marks
           c.in_ok-entered.ensures.pieces first (subst (λ (xs : List PieceRecord). IsRedrawn (touch_in c.args.space) c.args.image.now xs dropped drawn) marks c.in_ok-touches.ensures.redrawn) c.in_ok-touches.ensures.few comes c.in_ok-changes.ensures,
-      replay_unmarked c.args.image.now c.args.space place c.in_ok-id.id c.len.result c.unwrap-old.result.now c.in_ok-longer.longer (entries_in c.args.entries) c.counters-before.result c.versioned-counters.result _ c.in_ok-front.front
-          c.in_ok-changes.changes c.in_ok-entered.entered.marks.items drawn pieces dropped c.in_ok-entered.entered.hists.items c.push_pieces.new.news.items c.push_all.new.news.items k.found c.counters-before.ensures c.in_ok-id.ensures.above
+      replay_unmarked c.args.image.now c.args.space place c.in_ok-id.id c.len-count.result c.unwrap-old.result.now c.in_ok-longer.longer (entries_in c.args.entries) c.counters-before.result c.versioned-counters.result _ c.in_ok-front.front
+          c.in_ok-changes.changes c.in_ok-entered.entered.marks.items drawn pieces dropped c.in_ok-entered.entered.hists.items c.push_pieces.new.news.items c.push_traced.new.news.items k.found c.counters-before.ensures c.in_ok-id.ensures.above
           c.in_ok-longer.ensures c.in_ok-front.ensures c.in_ok-touches.ensures.redrawn first comes c.in_ok-changes.ensures,
     )
