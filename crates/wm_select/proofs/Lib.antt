@@ -12,3 +12,5 @@ pub mod SortLemmas
 pub mod KeyLemmas
 pub mod GroupLemmas
 pub mod CountLemmas
+pub mod CapLemmas
+pub mod FindLemmas
