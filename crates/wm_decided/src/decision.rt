@@ -103,18 +103,21 @@ impl Decision {
         }
     }
 
+    /// The number of the table.
     pub fn table(&self) -> u16
         ensures { result ≡ self.now.table }
     {
         self.table
     }
 
+    /// The key whose cells it decides.
     pub fn key(&self) -> &Key
         ensures { result.now ≡ self.now.key }
     {
         &self.key
     }
 
+    /// The period over which it decides them.
     pub fn period(&self) -> Period
         ensures from { result.from ≡ self.now.from }
         ensures till { result.till ≡ self.now.till }
@@ -138,6 +141,7 @@ impl Decision {
         self.position
     }
 
+    /// The same decision once more.
     pub fn copy(&self, alloc: Global) -> Result<Decision, Memory>
         ensures { IfOk result (λ copy. copy ≡ self.now) }
     {
