@@ -1,5 +1,5 @@
 -- A key of a table, as a row of its key columns, fits these.
-use Rattle.std.proofs.Common.{◌≡◌, ℕ, ◌==◌, ◌||◌, ◌&&◌, nat_le, Bool, true, false, List, [], ◌∷◌, ◌++◌, map, slice_get, Option, None, Some, refl}
+use Rattle.std.proofs.Common.{◌≡◌, ℕ, ◌==◌, ◌||◌, ◌&&◌, nat_le, true, false, List, [], ◌∷◌, ◌++◌, map, slice_get, Option, None, Some, refl}
 use Rattle.std.specs.List.{cons_option, filter_map}
 use Rattle.std.specs.Option.{option_map_or}
 use Rattle.wm_base.specs.Value.{type_place}
@@ -7,6 +7,7 @@ use Rattle.wm_base.specs.declared.columns.Column.{Column}
 use Rattle.wm_base.specs.declared.value.Value.{Value}
 use Rattle.wm_base.specs.declared.value.Value.TheVariants as values
 use Rattle.wm_graph.specs.Rules.{are_typed, has_key, is_key_of, is_typed, type_of, weight}
+use Rattle.wm_net.proofs.Cutting.{or_right}
 use Rattle.wm_spec.specs.Conditions.{fits}
 use Rattle.wm_spec.specs.Operands.{fits_columns}
 use Rattle.wm_spec.specs.declared.record.column.TableColumn.{TableColumn}
@@ -14,10 +15,6 @@ use Rattle.wm_spec.specs.declared.record.table.Table.{Table}
 use Rattle.wm_state.proofs.Tests.{and_true, both}
 use Rattle.wm_typing.specs.Columns.{declared_column, valid_column}
 use Rattle.wm_decided.specs.Keys.{columns_of_keys, key_as_row}
-
-or_true : (a b : Bool) → b ≡ true → (a || b) ≡ true
-or_true true b is = refl
-or_true false b is = is
 
 module _ (name : List ℕ) (columns : List TableColumn) where
   -- WM_VALID, which is NULL in such a row
@@ -41,7 +38,7 @@ module _ (name : List ℕ) (columns : List TableColumn) where
           → fits_columns (map (declared_column name) (cons_option o (filter_map (slice_get columns) places)) ++ ends) (v ∷ vs ++ nulls) ≡ true
       by_column None typed rest = absurd (cc)
       by_column (Some c) typed rest =
-          and_true ((type_place v == 0) || (type_place v == type_of c.kind)) (fits_columns (keyed places ++ ends) (vs ++ nulls)) (or_true (type_place v == 0) (type_place v == type_of c.kind) typed) rest
+          and_true ((type_place v == 0) || (type_place v == type_of c.kind)) (fits_columns (keyed places ++ ends) (vs ++ nulls)) (or_right (type_place v == 0) (type_place v == type_of c.kind) typed) rest
 
 pub key_fits : (t : Table) (key : List Value) → is_key_of key t ≡ true → fits (columns_of_keys t) (key_as_row key) ≡ true
 unfolding fits
