@@ -20,10 +20,10 @@ given_none o fault s act none = ap (λ p. given p fault s act) none
 given_some : (o fault : Option (List ℕ)) (text : List ℕ) (s : State) (act : List ℕ → State × Answer) → o ≡ Some text → given o fault s act ≡ act text
 given_some o fault text s act some = ap (λ p. given p fault s act) some
 
-unless_some : (fault : Option (List ℕ)) (parameter : List ℕ) (s : State) (done : State × Answer) → fault ≡ Some parameter → unless_mistyped fault s done ≡ (s, mistyped parameter)
+pub unless_some : (fault : Option (List ℕ)) (parameter : List ℕ) (s : State) (done : State × Answer) → fault ≡ Some parameter → unless_mistyped fault s done ≡ (s, mistyped parameter)
 unless_some fault parameter s done some = ap (λ f. unless_mistyped f s done) some
 
-unless_none : (fault : Option (List ℕ)) (s : State) (done : State × Answer) → fault ≡ None → unless_mistyped fault s done ≡ done
+pub unless_none : (fault : Option (List ℕ)) (s : State) (done : State × Answer) → fault ≡ None → unless_mistyped fault s done ≡ done
 unless_none fault s done none = ap (λ f. unless_mistyped f s done) none
 
 named_bad : (name : List ℕ) (taken : Bool) (fault : Option (List ℕ)) (s : State) (done : State × Answer) → is_name name ≡ false → newly_named name taken fault s done ≡ (s, bad_name)

@@ -14,6 +14,7 @@ ghost use Rattle.wm_state.specs.Editing.{stand_of};
 ghost use Rattle.wm_state.specs.Points.{next_place_at, point_at};
 ghost use Rattle.wm_state.specs.State.{Session as SessionState};
 
+use crate::ending::ended;
 use crate::saving::{SAVEPOINT_LIMIT, is_last};
 use std::alloc::Global;
 use wm_base::{Memory, Name};
@@ -22,7 +23,7 @@ use wm_image::Image;
 use wm_plan::answer::Answer;
 use wm_plan::planned::Planned;
 use wm_plan::refuse::{
-    at_its_end, most_savepoints, most_workspaces, not_built, savepoint_there, workspace_there,
+    most_savepoints, most_workspaces, not_built, savepoint_there, workspace_there,
 };
 use wm_plan::session::{Session, Stand};
 use wm_plan::work::is_spent;
@@ -77,7 +78,7 @@ fn bear(
     ensures few { IfOk result AreForks }
 {
     if is_spent(&image.counters()) {
-        return Ok(Planned::answered(alloc, at_its_end(alloc, b"WORK")?));
+        return ended(alloc, b"WORK");
     }
     let edit = Edit::Bear {
         parent: space.number,
@@ -104,13 +105,13 @@ fn bear_where(
 {
     let at = place_of(session.stand());
     if is_placeless(space, at) {
-        return Ok(Planned::answered(alloc, at_its_end(alloc, b"PLACE")?));
+        return ended(alloc, b"PLACE");
     }
     if is_last(space.next_implicit) {
-        return Ok(Planned::answered(alloc, at_its_end(alloc, b"ICP")?));
+        return ended(alloc, b"ICP");
     }
     if image.next_space() > u64::from(u32::MAX) {
-        return Ok(Planned::answered(alloc, at_its_end(alloc, b"WORKSPACE")?));
+        return ended(alloc, b"WORKSPACE");
     }
     if !is_there(image, space, at) {
         return Ok(Planned::answered(alloc, not_built()));

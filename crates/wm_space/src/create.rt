@@ -11,6 +11,7 @@ ghost use Rattle.wm_state.specs.Standing.{by_number};
 ghost use Rattle.wm_state.specs.State.{Session as SessionState, next_table};
 ghost use Rattle.wm_plan.specs.Planning.{DoesIt};
 
+use crate::ending::ended;
 use std::alloc::Global;
 use wm_base::tree::statement::CreateItems;
 use wm_base::{Memory, Name};
@@ -18,7 +19,7 @@ use wm_image::Image;
 use wm_making::{names_fault, shape_fault, table_of};
 use wm_plan::answer::Answer;
 use wm_plan::planned::Planned;
-use wm_plan::refuse::{at_its_end, most_tables, table_there};
+use wm_plan::refuse::{most_tables, table_there};
 use wm_plan::work::is_spent;
 use wm_state::edit::Edit;
 
@@ -57,7 +58,7 @@ fn make(
     ensures idle { IfOk result Idles }
 {
     if is_spent(&image.counters()) {
-        return Ok(Planned::answered(alloc, at_its_end(alloc, b"WORK")?));
+        return ended(alloc, b"WORK");
     }
     let table = table_of(alloc, number, name.copy(alloc)?, items)?;
     Planned::editing(alloc, Edit::Create(table), Answer::Fine)

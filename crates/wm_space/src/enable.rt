@@ -10,12 +10,13 @@ ghost use Rattle.wm_state.specs.State.{Session as SessionState};
 ghost use Rattle.wm_plan.specs.Planning.{DoesIt};
 ghost use Rattle.wm_space.specs.Readying.{readiness_view};
 
+use crate::ending::ended;
 use std::alloc::Global;
 use wm_base::{Memory, Name};
 use wm_image::Image;
 use wm_plan::answer::Answer;
 use wm_plan::planned::Planned;
-use wm_plan::refuse::{at_its_end, long_name, mistyped, no_key, no_table, versioning};
+use wm_plan::refuse::{long_name, mistyped, no_key, no_table, versioning};
 use wm_plan::work::is_spent;
 use wm_spec::record::Table;
 use wm_state::edit::Edit;
@@ -49,7 +50,7 @@ fn make_ready(
     ensures idle { IfOk result Idles }
 {
     if is_spent(&image.counters()) {
-        return Ok(Planned::answered(alloc, at_its_end(alloc, b"WORK")?));
+        return ended(alloc, b"WORK");
     }
     let edit = Edit::Enable {
         name,

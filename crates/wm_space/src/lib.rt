@@ -10,6 +10,7 @@ pub mod connect;
 pub mod create;
 mod dependent;
 mod enable;
+pub mod ending;
 mod going;
 mod looking;
 pub mod removing;

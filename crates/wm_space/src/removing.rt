@@ -5,18 +5,19 @@ ghost use Rattle.std.specs.List.{find};
 ghost use Rattle.wm_base.specs.declared.instant.TheConstants.{END};
 ghost use Rattle.wm_graph.specs.Parts.{parts_of};
 ghost use Rattle.wm_graph.specs.Rules.{keep_rules};
-ghost use Rattle.wm_model.specs.Step.{remove_workspace};
+ghost use Rattle.wm_model.specs.Step.{refusal_of, remove_workspace, session_inside};
 ghost use Rattle.wm_model.specs.Undone.{NamesSpace, going_refusal, removing_refusal};
 ghost use Rattle.wm_plan.specs.Idle.{Idles};
 ghost use Rattle.wm_plan.specs.Planning.{DoesIt};
 ghost use Rattle.wm_state.specs.State.{Session as SessionState};
 
+use crate::ending::ended;
 use std::alloc::Global;
 use wm_base::{Memory, Name, Refusal};
 use wm_image::Image;
 use wm_plan::answer::Answer;
 use wm_plan::planned::Planned;
-use wm_plan::refuse::{at_its_end, has_child, no_parent, no_workspace, session_inside};
+use wm_plan::refuse::{has_child, no_parent, no_workspace, session_inside};
 use wm_plan::resolving::resolving_refusal;
 use wm_plan::session::Session;
 use wm_plan::work::is_spent;
@@ -35,6 +36,18 @@ fn first_inside(sessions: &[Session], space: u32) -> Option<&Session>
     None
 }
 
+/// What a line is refused for where a session stands in a workspace.
+pub fn inside_refusal(
+    alloc: Global,
+    space: &Space,
+    session: &Session,
+) -> Result<Option<Refusal>, Memory>
+    ensures { IfOk result (λ fault. fault ≡ refusal_of (session_inside space.now.name session.now.name)) }
+{
+    let space = space.name.copy(alloc)?;
+    Ok(session_inside(space, session.name().copy(alloc)?).into_refusal())
+}
+
 /// What a workspace that is to go is refused for: a session stands in it, or it has a child.
 pub fn going_refusal(
     alloc: Global,
@@ -46,8 +59,7 @@ pub fn going_refusal(
     ensures { IfOk result (λ fault. fault ≡ going_refusal (parts_of image.now) sessions.now space.now) }
 {
     if let Some(session) = first_inside(sessions, space.number) {
-        let inside = session_inside(space.name.copy(alloc)?, session.name().copy(alloc)?);
-        return Ok(inside.into_refusal());
+        return inside_refusal(alloc, space, session);
     }
     if let Some(child) = image.child_from(space.number, 0, 0) {
         let child = has_child(space.name.copy(alloc)?, child.name.copy(alloc)?);
@@ -81,7 +93,7 @@ fn remove(alloc: Global, image: &Image, moment: u64, space: &Space) -> Result<Pl
     ensures idle { IfOk result Idles }
 {
     if is_spent(&image.counters()) {
-        return Ok(Planned::answered(alloc, at_its_end(alloc, b"WORK")?));
+        return ended(alloc, b"WORK");
     }
     let edit = Edit::Remove {
         space: space.number,

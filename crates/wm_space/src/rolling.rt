@@ -12,14 +12,14 @@ ghost use Rattle.wm_plan.specs.Planning.{DoesIt};
 ghost use Rattle.wm_state.specs.State.{Session as SessionState};
 
 use crate::dependent::{first_dependent, is_marked_since};
+use crate::ending::ended;
+use crate::removing::inside_refusal;
 use std::alloc::Global;
 use wm_base::{Memory, Name, Refusal};
 use wm_image::Image;
 use wm_plan::answer::Answer;
 use wm_plan::planned::Planned;
-use wm_plan::refuse::{
-    at_its_end, dependent_child, no_savepoint, no_workspace, rebased_since, session_inside,
-};
+use wm_plan::refuse::{dependent_child, no_savepoint, no_workspace, rebased_since};
 use wm_plan::resolving::resolving_refusal;
 use wm_plan::session::{Session, Stand};
 use wm_plan::work::is_spent;
@@ -72,8 +72,7 @@ fn rolling_refusal(
     ensures { IfOk result (λ fault. fault ≡ rolling_refusal (parts_of image.now) sessions.now space.now savepoint.now) }
 {
     if let Some(session) = first_behind(image, sessions, space.number, savepoint) {
-        let inside = session_inside(space.name.copy(alloc)?, session.name().copy(alloc)?);
-        return Ok(inside.into_refusal());
+        return inside_refusal(alloc, space, session);
     }
     if let Some(child) = first_dependent(image, sessions, space.number, savepoint) {
         return Ok(dependent_child(child.name.copy(alloc)?).into_refusal());
@@ -111,7 +110,7 @@ fn roll_back(
         return Ok(Planned::answered(alloc, Answer::Fine));
     }
     if is_spent(&image.counters()) {
-        return Ok(Planned::answered(alloc, at_its_end(alloc, b"WORK")?));
+        return ended(alloc, b"WORK");
     }
     let edit = Edit::Restore {
         space: space.number,

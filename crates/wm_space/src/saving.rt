@@ -11,12 +11,13 @@ ghost use Rattle.wm_state.specs.Points.{HasRoom};
 ghost use Rattle.wm_model.specs.Step.{create_savepoint, is_name, names_no_savepoint, number_limit};
 ghost use Rattle.wm_state.specs.State.{Session as SessionState};
 
+use crate::ending::ended;
 use std::alloc::Global;
 use wm_base::{Memory, Name};
 use wm_image::Image;
 use wm_plan::answer::Answer;
 use wm_plan::planned::Planned;
-use wm_plan::refuse::{at_its_end, most_savepoints, no_workspace, savepoint_there};
+use wm_plan::refuse::{most_savepoints, no_workspace, savepoint_there};
 use wm_plan::work::is_spent;
 use wm_spec::record::Space;
 use wm_state::edit::Edit;
@@ -50,7 +51,7 @@ fn save(
     ensures few { IfOk result AreForks }
 {
     if is_spent(&image.counters()) {
-        return Ok(Planned::answered(alloc, at_its_end(alloc, b"WORK")?));
+        return ended(alloc, b"WORK");
     }
     let edit = Edit::Save {
         space: space.number,
@@ -85,7 +86,7 @@ fn save_in(
         return Ok(Planned::answered(alloc, most_savepoints()));
     }
     if is_last(space.next_place) {
-        return Ok(Planned::answered(alloc, at_its_end(alloc, b"PLACE")?));
+        return ended(alloc, b"PLACE");
     }
     save(alloc, image, moment, space, name)
 }

@@ -7,17 +7,18 @@ use Rattle.wm_state.specs.Editing.{stand_of}
 use Rattle.wm_state.specs.Points.{point_at}
 use Rattle.wm_state.specs.declared.edit.Edit.TheVariants as edits
 use Rattle.wm_space.proofs.BirthPlans.{bears_edit}
+use Rattle.wm_space.proofs.Ended.{told_ended}
 use Rattle.wm_plan.proofs.Planning.{told, early, some_of, forks_edit, never_idle}
-use Rattle.wm_plan.specs.Views.{answer_view, seating_view}
 use Rattle.wm_space.proofs.bearing.bear.Goals as goal
 
 pub returns-then-is_spent-clause-does : goal.returns-then-is_spent-clause-does
-returns-then-is_spent-clause-does c = λ xs session may stands.
+returns-then-is_spent-clause-does c =
+    told_ended c.ended.result (codes "WORK") _ c.ended.ensures.edits c.ended.ensures.seating c.ended.ensures.answer
+    (λ p edits seats says xs session may stands.
     let there = some_of (point_at (parts_of c.args.image.now) c.args.space.now c.args.moment (stand_of c.args.at)) c.requires.there in
-    told c.args.image.now xs c.args.moment c.answered.result [] Stay (at_its_end (codes "WORK")) (create_workspace session c.args.name) c.answered.ensures.edits (ap seating_view c.answered.ensures.seating)
-    (ap answer_view c.answered.ensures.answer ∙ c.in_ok-at_its_end.ensures)
+    told c.args.image.now xs c.args.moment p [] Stay (at_its_end (codes "WORK")) (create_workspace session c.args.name) edits seats says
     (bear_spent c.args.image.now xs c.args.moment session c.args.name c.args.space.now there.0 c.counters.result may
-    (ap (point_at (parts_of c.args.image.now) c.args.space.now c.args.moment) (sym stands) ∙ there.1) c.counters.ensures (sym c.if-is_spent.ensures))
+    (ap (point_at (parts_of c.args.image.now) c.args.space.now c.args.moment) (sym stands) ∙ there.1) c.counters.ensures (sym c.if-is_spent.ensures)))
 
 pub returns-clause-does : goal.returns-clause-does
 returns-clause-does c =

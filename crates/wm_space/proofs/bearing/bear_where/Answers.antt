@@ -7,39 +7,43 @@ use Rattle.wm_state.specs.Editing.{stand_of}
 use Rattle.wm_state.specs.Points.{next_place_at, point_at}
 use Rattle.wm_state.specs.Standing.{space_after}
 use Rattle.wm_space.proofs.BirthPlans.{may_bear_in, number_end, number_left, none_of, bears_as}
+use Rattle.wm_space.proofs.Ended.{told_ended}
 use Rattle.wm_plan.proofs.Planning.{told}
 use Rattle.wm_plan.specs.Views.{answer_view, seating_view}
 use Rattle.wm_space.proofs.bearing.bear_where.Goals as goal
 
 pub returns-then-is_placeless-clause-does : goal.returns-then-is_placeless-clause-does
-returns-then-is_placeless-clause-does c = λ xs among.
-    told c.args.image.now xs c.args.moment c.answered.result [] Stay (at_its_end (codes "PLACE")) (create_workspace c.args.session.now c.args.name) c.answered.ensures.edits (ap seating_view c.answered.ensures.seating)
-    (ap answer_view c.answered.ensures.answer ∙ c.in_ok-at_its_end.ensures)
+returns-then-is_placeless-clause-does c =
+    told_ended c.ended.result (codes "PLACE") _ c.ended.ensures.edits c.ended.ensures.seating c.ended.ensures.answer
+    (λ p edits seats says xs among.
+    told c.args.image.now xs c.args.moment p [] Stay (at_its_end (codes "PLACE")) (create_workspace c.args.session.now c.args.name) edits seats says
     (bear_placeless c.args.image.now xs c.args.moment c.args.session.now c.args.name c.args.space.now c.requires.roomy
-    (ap (λ x. nat_lt number_limit (next_place_at c.args.space.now x)) (sym (c.place_of-at.ensures ∙ c.stand.ensures)) ∙ sym c.if-is_placeless.ensures))
+    (ap (λ x. nat_lt number_limit (next_place_at c.args.space.now x)) (sym (c.place_of-at.ensures ∙ c.stand.ensures)) ∙ sym c.if-is_placeless.ensures)))
 
 pub returns-then-is_last-clause-does : goal.returns-then-is_last-clause-does
-returns-then-is_last-clause-does c = λ xs among.
+returns-then-is_last-clause-does c =
+    told_ended c.ended-then-is_last.result (codes "ICP") _ c.ended-then-is_last.ensures.edits c.ended-then-is_last.ensures.seating c.ended-then-is_last.ensures.answer
+    (λ p edits seats says xs among.
     let stands = c.place_of-at.ensures ∙ c.stand.ensures in
-    told c.args.image.now xs c.args.moment c.answered-then-is_last.result [] Stay (at_its_end (codes "ICP")) (create_workspace c.args.session.now c.args.name) c.answered-then-is_last.ensures.edits
-    (ap seating_view c.answered-then-is_last.ensures.seating) (ap answer_view c.answered-then-is_last.ensures.answer ∙ c.in_ok-at_its_end-2.ensures)
+    told c.args.image.now xs c.args.moment p [] Stay (at_its_end (codes "ICP")) (create_workspace c.args.session.now c.args.name) edits seats says
     (bear_nameless c.args.image.now xs c.args.moment c.args.session.now c.args.name c.args.space.now c.requires.roomy
-    (ap (λ x. nat_lt number_limit (next_place_at c.args.space.now x)) (sym stands) ∙ sym c.if-is_placeless.ensures) (sym c.if-is_last.ensures))
+    (ap (λ x. nat_lt number_limit (next_place_at c.args.space.now x)) (sym stands) ∙ sym c.if-is_placeless.ensures) (sym c.if-is_last.ensures)))
 
 pub returns-then-next_space-from-clause-does : goal.returns-then-next_space-from-clause-does
-returns-then-next_space-from-clause-does c = λ xs among.
+returns-then-next_space-from-clause-does c =
+    told_ended c.ended-then-next_space-from.result (codes "WORKSPACE") _ c.ended-then-next_space-from.ensures.edits c.ended-then-next_space-from.ensures.seating c.ended-then-next_space-from.ensures.answer
+    (λ p edits seats says xs among.
     let stands = c.place_of-at.ensures ∙ c.stand.ensures in
-    told c.args.image.now xs c.args.moment c.answered-then-next_space-from.result [] Stay (at_its_end (codes "WORKSPACE")) (create_workspace c.args.session.now c.args.name) c.answered-then-next_space-from.ensures.edits
-    (ap seating_view c.answered-then-next_space-from.ensures.seating) (ap answer_view c.answered-then-next_space-from.ensures.answer ∙ c.in_ok-at_its_end-3.ensures)
+    told c.args.image.now xs c.args.moment p [] Stay (at_its_end (codes "WORKSPACE")) (create_workspace c.args.session.now c.args.name) edits seats says
     (bear_numberless c.args.image.now xs c.args.moment c.args.session.now c.args.name c.args.space.now c.requires.roomy
     (ap (λ x. nat_lt number_limit (next_place_at c.args.space.now x)) (sym stands) ∙ sym c.if-is_placeless.ensures) (sym c.if-is_last.ensures)
-    (number_end (space_after (parts_of c.args.image.now).spaces) c.next_space.result c.from.result c.next_space.ensures c.from.ensures c.if-next_space-from.true))
+    (number_end (space_after (parts_of c.args.image.now).spaces) c.next_space.result c.from.result c.next_space.ensures c.from.ensures c.if-next_space-from.true)))
 
 pub returns-then-not-is_there-clause-does : goal.returns-then-not-is_there-clause-does
 returns-then-not-is_there-clause-does c = λ xs among.
     let stands = c.place_of-at.ensures ∙ c.stand.ensures in
-    told c.args.image.now xs c.args.moment c.answered-then-not-is_there.result [] Stay not_built (create_workspace c.args.session.now c.args.name) c.answered-then-not-is_there.ensures.edits
-    (ap seating_view c.answered-then-not-is_there.ensures.seating) (ap answer_view c.answered-then-not-is_there.ensures.answer ∙ c.not_built.ensures)
+    told c.args.image.now xs c.args.moment c.answered.result [] Stay not_built (create_workspace c.args.session.now c.args.name) c.answered.ensures.edits
+    (ap seating_view c.answered.ensures.seating) (ap answer_view c.answered.ensures.answer ∙ c.not_built.ensures)
     (does_standless c.args.image.now xs c.args.moment c.args.session.now c.args.space.now not_built (create_workspace c.args.session.now c.args.name) among c.requires.roomy.bears.found
     (ap (point_at (parts_of c.args.image.now) c.args.space.now c.args.moment) (sym stands)
     ∙ none_of (point_at (parts_of c.args.image.now) c.args.space.now c.args.moment (stand_of c.place_of-at.result)) (sym (c.if-not-is_there.ensures c.args.moment))))

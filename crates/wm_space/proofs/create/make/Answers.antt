@@ -5,16 +5,17 @@ use Rattle.wm_model.specs.Planning.{Stay}
 use Rattle.wm_model.specs.Step.{create, at_its_end}
 use Rattle.wm_state.specs.declared.edit.Edit.TheVariants as edits
 use Rattle.wm_space.proofs.Creating.{may_make}
+use Rattle.wm_space.proofs.Ended.{told_ended}
 use Rattle.wm_plan.proofs.Planning.{told, told_edit, early, never_idle}
-use Rattle.wm_plan.specs.Views.{answer_view, seating_view}
 use Rattle.wm_space.proofs.create.make.Goals as goal
 
 pub returns-then-is_spent-clause-does : goal.returns-then-is_spent-clause-does
-returns-then-is_spent-clause-does c = λ xs.
-    told c.args.image.now xs c.args.moment c.answered.result [] Stay (at_its_end (codes "WORK")) (create c.args.name.now c.args.items.now) c.answered.ensures.edits (ap seating_view c.answered.ensures.seating)
-    (ap answer_view c.answered.ensures.answer ∙ c.in_ok-at_its_end.ensures)
+returns-then-is_spent-clause-does c =
+    told_ended c.ended.result (codes "WORK") _ c.ended.ensures.edits c.ended.ensures.seating c.ended.ensures.answer
+    (λ p edits seats says xs.
+    told c.args.image.now xs c.args.moment p [] Stay (at_its_end (codes "WORK")) (create c.args.name.now c.args.items.now) edits seats says
     (create_spent c.args.image.now xs c.args.moment c.args.name.now c.args.items.now c.counters.result c.requires.rules (may_make c.args.image.now c.args.name.now c.args.items.now c.requires.named c.requires.new c.requires.shaped)
-    c.requires.room c.counters.ensures (sym c.if-is_spent.ensures))
+    c.requires.room c.counters.ensures (sym c.if-is_spent.ensures)))
 
 pub returns-clause-does : goal.returns-clause-does
 returns-clause-does c =

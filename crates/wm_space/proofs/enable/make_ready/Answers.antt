@@ -1,19 +1,20 @@
-use Rattle.std.proofs.Common.{[], None, refl, sym, ap, ◌∙◌, codes}
+use Rattle.std.proofs.Common.{[], None, refl, sym, codes}
 use Rattle.wm_model.proofs.Enabling.{enable_spent, does_enable}
 use Rattle.wm_model.specs.Planning.{Stay}
 use Rattle.wm_model.specs.Step.{enable, at_its_end}
 use Rattle.wm_state.specs.declared.edit.Edit.TheVariants as edits
+use Rattle.wm_space.proofs.Ended.{told_ended}
 use Rattle.wm_plan.proofs.Planning.{told, told_edit, early, never_idle}
 use Rattle.wm_space.specs.Readying.{readiness_view}
-use Rattle.wm_plan.specs.Views.{answer_view, seating_view}
 use Rattle.wm_space.proofs.enable.make_ready.Goals as goal
 
 pub returns-then-is_spent-clause-does : goal.returns-then-is_spent-clause-does
-returns-then-is_spent-clause-does c = λ xs.
-    told c.args.image.now xs c.args.moment c.answered.result [] Stay (at_its_end (codes "WORK")) (enable c.args.name (readiness_view c.args.how) None) c.answered.ensures.edits (ap seating_view c.answered.ensures.seating)
-    (ap answer_view c.answered.ensures.answer ∙ c.in_ok-at_its_end.ensures)
+returns-then-is_spent-clause-does c =
+    told_ended c.ended.result (codes "WORK") _ c.ended.ensures.edits c.ended.ensures.seating c.ended.ensures.answer
+    (λ p edits seats says xs.
+    told c.args.image.now xs c.args.moment p [] Stay (at_its_end (codes "WORK")) (enable c.args.name (readiness_view c.args.how) None) edits seats says
     (enable_spent c.args.image.now xs c.args.moment c.args.name (readiness_view c.args.how) c.args.table.now c.counters.result c.requires.rules c.requires.short c.requires.named c.requires.off c.requires.key c.counters.ensures
-    (sym c.if-is_spent.ensures))
+    (sym c.if-is_spent.ensures)))
 
 pub returns-clause-does : goal.returns-clause-does
 returns-clause-does c =

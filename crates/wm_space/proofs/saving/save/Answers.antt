@@ -1,18 +1,19 @@
-use Rattle.std.proofs.Common.{[], refl, sym, ap, ◌∙◌, codes}
+use Rattle.std.proofs.Common.{[], refl, sym, codes}
 use Rattle.wm_model.proofs.SavingLine.{save_spent, does_save}
 use Rattle.wm_model.specs.Planning.{Stay}
 use Rattle.wm_model.specs.Step.{create_savepoint, at_its_end}
 use Rattle.wm_state.specs.declared.edit.Edit.TheVariants as edits
+use Rattle.wm_space.proofs.Ended.{told_ended}
 use Rattle.wm_plan.proofs.Planning.{told, early, forks_edit, never_idle}
 use Rattle.wm_space.proofs.SavepointPlans.{saves_edit}
-use Rattle.wm_plan.specs.Views.{answer_view, seating_view}
 use Rattle.wm_space.proofs.saving.save.Goals as goal
 
 pub returns-then-is_spent-clause-does : goal.returns-then-is_spent-clause-does
-returns-then-is_spent-clause-does c = λ xs workspace saves.
-    told c.args.image.now xs c.args.moment c.answered.result [] Stay (at_its_end (codes "WORK")) (create_savepoint workspace c.args.name) c.answered.ensures.edits (ap seating_view c.answered.ensures.seating)
-    (ap answer_view c.answered.ensures.answer ∙ c.in_ok-at_its_end.ensures)
-    (save_spent c.args.image.now xs c.args.moment workspace c.args.name c.args.space.now c.counters.result (record { saves = saves; room = c.requires.room; places = c.requires.places }) c.counters.ensures (sym c.if-is_spent.ensures))
+returns-then-is_spent-clause-does c =
+    told_ended c.ended.result (codes "WORK") _ c.ended.ensures.edits c.ended.ensures.seating c.ended.ensures.answer
+    (λ p edits seats says xs workspace saves.
+    told c.args.image.now xs c.args.moment p [] Stay (at_its_end (codes "WORK")) (create_savepoint workspace c.args.name) edits seats says
+    (save_spent c.args.image.now xs c.args.moment workspace c.args.name c.args.space.now c.counters.result (record { saves = saves; room = c.requires.room; places = c.requires.places }) c.counters.ensures (sym c.if-is_spent.ensures)))
 
 pub returns-clause-does : goal.returns-clause-does
 returns-clause-does c =
