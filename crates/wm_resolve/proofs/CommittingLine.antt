@@ -28,15 +28,13 @@ use Rattle.wm_model.specs.Step.{at_its_end, commit, commit_resolve, counter_limi
 use Rattle.wm_model.specs.Step.Sessions as settings
 use Rattle.wm_model.specs.Undone.{NamesSpace}
 use Rattle.wm_state.proofs.EditedLater.{all_edited_append}
+use Rattle.wm_telling.proofs.Beside.{some_same}
 use Rattle.wm_model.specs.Merged.{replay_edits}
 use Rattle.wm_model.proofs.MergedEdits.{all_replayed, with_space-again}
 use Rattle.wm_model.proofs.Doing.{does_nothing, does_seat, not_spent_at, spent_at, spent_log}
 use Rattle.wm_model.proofs.RollingLine.{home}
 use Rattle.wm_resolve.proofs.OpeningLine.{resolving}
 use Rattle.wm_resolve.specs.Committed.{commit_edits}
-
-one_some : {A : Type 0} (x y : A) → Some x ≡ Some y → x ≡ y
-one_some x y e = cc
 
 abbrev pub commit_to : Session → Workspace → State → State × Answer
 commit_to session w s = commit session (decisions_of session) w s
@@ -48,7 +46,7 @@ with_space-here n act other w (v ∷ vs) found same = by_test (v.number == n) fo
   where
     by_test : (b : Bool) → (if b then Some v else workspace_of vs n) ≡ Some w → (workspace_of vs n ≡ Some w → with_space n act vs ≡ with_space n other vs)
         → (if b then act v ∷ vs else v ∷ with_space n act vs) ≡ (if b then other v ∷ vs else v ∷ with_space n other vs)
-    by_test true is rest = ap (λ (x : Workspace). x ∷ vs) (subst (λ (x : Workspace). act x ≡ other x) (sym (one_some v w is)) same)
+    by_test true is rest = ap (λ (x : Workspace). x ∷ vs) (subst (λ (x : Workspace). act x ≡ other x) (sym (some_same v w is)) same)
     by_test false is rest = ap (λ (xs : List Workspace). v ∷ xs) (rest is)
 
 -- edits that are some are counted
@@ -123,7 +121,7 @@ module _ (rs : List Stored) (xs : List Session) (m : ℕ) (session : Session) (w
       staged_found test (y ∷ ys) x each found = by_test (test y) (staged_found test ys x (All-tail (λ (z : Session). IsStagedResolve (parts_of rs) z.resolve) y ys each)) found
         where
           by_test : (b : Bool) → (find test ys ≡ Some x → IsStagedResolve (parts_of rs) x.resolve) → (if b then Some y else find test ys) ≡ Some x → IsStagedResolve (parts_of rs) x.resolve
-          by_test true rest is = subst (λ (z : Session). IsStagedResolve (parts_of rs) z.resolve) (one_some y x is) (All-head (λ (z : Session). IsStagedResolve (parts_of rs) z.resolve) y ys each)
+          by_test true rest is = subst (λ (z : Session). IsStagedResolve (parts_of rs) z.resolve) (some_same y x is) (All-head (λ (z : Session). IsStagedResolve (parts_of rs) z.resolve) y ys each)
           by_test false rest is = rest is
 
       by_resolve : (o : Option Resolve) → IsStagedResolve (parts_of rs) o → All (IsStaged (parts_of rs)) (option_map_or (λ (r : Resolve). r.decisions) o [])

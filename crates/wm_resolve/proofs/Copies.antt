@@ -17,10 +17,8 @@ use Rattle.wm_period.specs.declared.piece.Piece.{Piece}
 use Rattle.wm_spec.specs.Lists.{Told}
 use Rattle.wm_state.proofs.Tests.{both}
 use Rattle.wm_telling.specs.Telling.{told_by}
+use Rattle.wm_telling.proofs.Beside.{some_same}
 use Rattle.wm_resolve.specs.Copying.{AreCopies, SayOne, copy_in, extended, laid, shares}
-
-some_same : {A : Type 0} (x y : A) → Some x ≡ Some y → x ≡ y
-some_same x y e = cc
 
 -- ---- one more
 

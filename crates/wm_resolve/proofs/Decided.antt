@@ -1,6 +1,7 @@
 -- What is told of what is decided on stretches of conflict.
-use Rattle.std.proofs.Common.{◌≡◌, ◌<◌, ◌≤◌, ◌==◌, ℕ, suc, ◌+◌, nat_lt, arith, true, false, List, [], ◌∷◌, ◌++◌, map, take, length, get_or, Bor, Option, None, Some, is_some, option_to_list, refl, sym, ap, ◌∙◌}
+use Rattle.std.proofs.Common.{◌≡◌, ◌<◌, ◌≤◌, ◌==◌, ℕ, ◌+◌, nat_lt, arith, true, false, List, [], ◌∷◌, ◌++◌, map, take, length, get_or, Bor, Option, None, Some, is_some, option_to_list, refl, sym, ap, ◌∙◌}
 use Rattle.std.proofs.lemmas.List.{map-append, take_all, take_more}
+use Rattle.std.proofs.lemmas.List.Elements.{filter_map-append}
 use Rattle.std.proofs.lemmas.Bool.Decides.{nat_tests}
 use Rattle.std.specs.List.{cons_option, filter_map}
 use Rattle.std.specs.Option.{option_copied}
@@ -18,22 +19,17 @@ use Rattle.wm_state.proofs.Tests.{both}
 -- ---- all of them
 
 filter_map_last : {A B : Type 0} (f : A → Option B) (xs : List A) (x : A) → filter_map f (xs ++ x ∷ []) ≡ filter_map f xs ++ option_to_list (f x)
-filter_map_last f [] x = one (f x)
+filter_map_last f xs x = filter_map-append f xs (x ∷ []) ∙ ap (λ ys. filter_map f xs ++ ys) (one (f x))
   where
     one : {B : Type 0} (o : Option B) → cons_option o [] ≡ option_to_list o
     one None = refl
     one (Some y) = refl
-filter_map_last {B = B} f (y ∷ ys) x = ap (cons_option (f y)) (filter_map_last f ys x) ∙ by_first (f y)
-  where
-    by_first : (o : Option B) → cons_option o (filter_map f ys ++ option_to_list (f x)) ≡ cons_option o (filter_map f ys) ++ option_to_list (f x)
-    by_first None = refl
-    by_first (Some z) = refl
 
-pub decided_more : {A B C : Type 0} (f : B → Option C) (pair : A → B) (xs : List A) (i : ℕ) (x : A) (made : Option C) (old new : List C) → i < length xs → x ≡ get_or xs i x → made ≡ f (pair x) → new ≡ old ++ option_to_list made
+pub decided_more : {A B C : Type 0} (f : B → Option C) (pair : A → B) (xs : List A) (i : ℕ) (x : A) (old new : List C) → i < length xs → x ≡ get_or xs i x → new ≡ old ++ option_to_list (f (pair x))
     → old ≡ filter_map f (map pair (take i xs)) → new ≡ filter_map f (map pair (take (i + 1) xs))
-decided_more {A} {B} {C} f pair xs i x made old new within is so more were =
+decided_more {A} {B} {C} f pair xs i x old new within is more were =
     more
-    ∙ (λ j. were j ++ option_to_list (so j))
+    ∙ (λ j. were j ++ option_to_list (f (pair x)))
     ∙ sym (filter_map_last f (map pair (take i xs)) (pair x))
     ∙ ap (filter_map f) (sym (map-append pair (take i xs) (x ∷ [])))
     ∙ ap (λ (ys : List A). filter_map f (map pair ys)) (ap (λ y. take i xs ++ y ∷ []) is ∙ sym (take_more xs i x within))
@@ -42,13 +38,6 @@ pub decided_all : {A B C : Type 0} (f : B → Option C) (pair : A → B) (xs : L
 decided_all {A} f pair xs i ds past were = were ∙ ap (λ (ys : List A). filter_map f (map pair ys)) (take_all i xs past)
 
 -- ---- whether there are any
-
-pub none_of : {A : Type 0} (xs : List A) → (length xs == 0) ≡ true → xs ≡ []
-none_of [] none = refl
-none_of (x ∷ xs) none = absurd (more (length xs) none)
-  where
-    more : (n : ℕ) → (suc n == 0) ≡ true → ⊥
-    more n e = grind (arith, e)
 
 pub some_of : {A : Type 0} (xs : List A) → (length xs == 0) ≡ false → xs ≡ [] → ⊥
 some_of [] some none = cc

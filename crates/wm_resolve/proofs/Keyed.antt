@@ -1,5 +1,6 @@
 -- Conflicts are found on keys of their table, so a condition over its key columns can be judged on each.
-use Rattle.std.proofs.Common.{◌≡◌, ℕ, zero, suc, ◌==◌, ◌&&◌, nat_le, nat_lt, Bool, true, false, if◌then◌else◌, List, [], ◌∷◌, map, filter, slice_get, Option, None, Some, is_some, refl, sym, ap, ◌∙◌, eqb-true}
+use Rattle.std.proofs.Common.{◌≡◌, ℕ, ◌==◌, ◌&&◌, nat_le, nat_lt, Bool, true, false, if◌then◌else◌, List, [], ◌∷◌, map, filter, Option, None, Some, is_some, refl, sym, ap, ◌∙◌, eqb-true}
+use Rattle.std.proofs.lemmas.List.Sums.{AllPass-from_list_all}
 use Rattle.std.specs.Bool.{then_some}
 use Rattle.std.specs.List.{AllByRecursion, list_all}
 use Rattle.std.specs.Option.{option_map_or}
@@ -26,17 +27,12 @@ use Rattle.wm_spec.specs.declared.record.space.Space.{Space}
 use Rattle.wm_spec.specs.declared.record.table.Table.{Table}
 use Rattle.wm_state.proofs.Apart.{ruled}
 use Rattle.wm_state.proofs.Laying.{key_same}
+use Rattle.wm_state.proofs.Logging.{all_at}
 use Rattle.wm_state.proofs.Tests.{and_true, both}
 use Rattle.wm_telling.specs.Telling.{clash_held, is_pending, is_unsettled, own_held, stamps_of}
-use Rattle.wm_telling.proofs.Beside.{some_same}
 use Rattle.wm_telling.proofs.Storing.{stores_own}
 
 -- ---- a cell that a workspace changed
-
-all_at : {A : Type 0} (P : A → Bool) (xs : List A) (n : ℕ) (x : A) → list_all P xs ≡ true → slice_get xs n ≡ Some x → P x ≡ true
-all_at P [] n x all e = absurd (cc)
-all_at P (y ∷ ys) zero x all e = ap P (sym (some_same y x e)) ∙ (both (P y) (list_all P ys) all).0
-all_at P (y ∷ ys) (suc n) x all e = all_at P ys n x (both (P y) (list_all P ys) all).1 e
 
 module _ (p : Parts) where
   -- a piece covers the cell, and is in order
@@ -51,8 +47,9 @@ module _ (p : Parts) where
   own_laid keeps a c h is =
       let stored = stores_own p a c h is in
       let rules = ruled p keeps in
-      let piece = all_at (is_piece (table_of p.tables) (version_of p.versions) (row_of p.rows) rules.counters.next_stamp) p.pieces stored.place stored.piece
-      (both (differ collide p.pieces) (list_all (is_piece (table_of p.tables) (version_of p.versions) (row_of p.rows) rules.counters.next_stamp) p.pieces) rules.pieces).1 stored.there in
+      let sound = is_piece (table_of p.tables) (version_of p.versions) (row_of p.rows) rules.counters.next_stamp in
+      let all = AllPass-from_list_all sound p.pieces (both (differ collide p.pieces) (list_all sound p.pieces) rules.pieces).1 in
+      let piece = all_at (λ (x : PieceRecord). sound x ≡ true) p.pieces stored.place stored.piece all stored.there in
       let place = both _ (nat_le stored.piece.cells.from c.time && nat_lt c.time stored.piece.cells.till) stored.covers in
       let group = both (stored.piece.cells.table == c.table) _ place.0 in
       record {

@@ -24,9 +24,6 @@ use Rattle.wm_state.proofs.Mapped.{find-passes}
 use Rattle.wm_state.proofs.Tests.{and_true, bool_apart, both}
 use Rattle.wm_resolve.specs.Restoring.{fits_key, has_row, is_restored, is_staged}
 
-some_same : {A : Type 0} (x y : A) → Some x ≡ Some y → x ≡ y
-some_same x y e = cc
-
 first_counters : (c d : Counters) → c ∷ [] ≡ d ∷ [] → c ≡ d
 first_counters c d e = cc
 

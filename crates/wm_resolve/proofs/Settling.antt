@@ -3,6 +3,7 @@ use Rattle.std.proofs.Common.{◌≡◌, ℕ, suc, ◌+◌, ◌<◌, ◌≤◌, 
 use Rattle.std.proofs.lemmas.Bool.Decides.{nat_tests}
 use Rattle.std.proofs.lemmas.List.{length-map}
 use Rattle.std.proofs.lemmas.List.Elements.{All-head, All-tail, All-weaker}
+use Rattle.std.proofs.lemmas.List.Sums.{list_all-from_AllPass}
 use Rattle.std.specs.Bool.{then_some}
 use Rattle.std.specs.List.{All, list_all}
 use Rattle.std.specs.Option.{option_map_or, option_or}
@@ -41,10 +42,6 @@ use Rattle.wm_state.proofs.Tests.{and_true, both}
 use Rattle.wm_settled.proofs.SettledBehind.{settles_behind}
 use Rattle.wm_resolve.proofs.Listed.{nothing_given}
 use Rattle.wm_resolve.specs.Committed.{commit_edits}
-
-all_true : {A : Type 0} (P : A → Bool) (xs : List A) → All (λ x. P x ≡ true) xs → list_all P xs ≡ true
-all_true P [] all = refl
-all_true P (x ∷ xs) all = and_true (P x) (list_all P xs) (All-head (λ y. P y ≡ true) x xs all) (all_true P xs (All-tail (λ y. P y ≡ true) x xs all))
 
 module _ (p : Parts) (ds : List Decision) (staged : All (IsStaged p) ds) where
   ended : (till high : ℕ) → till ≤ high → nat_le high END ≡ true → till ≤ END
@@ -90,12 +87,12 @@ module _ (p : Parts) (ds : List Decision) (staged : All (IsStaged p) ds) where
         one = one;
         some = some;
         old = record {
-          stamps = all_true (λ (e : Entry). nat_lt e.stamp c.next_stamp) es (All-weaker (CanRewrite user) (λ (e : Entry). nat_lt e.stamp c.next_stamp ≡ true) (λ e k. k.restorable.given c one) es all);
+          stamps = list_all-from_AllPass (λ (e : Entry). nat_lt e.stamp c.next_stamp) es (All-weaker (CanRewrite user) (λ (e : Entry). nat_lt e.stamp c.next_stamp ≡ true) (λ e k. k.restorable.given c one) es all);
           real = All-weaker (CanRewrite user) (IsReal p.tables) (λ e k. record { some = k.some; till = k.till; on = k.restorable.ready }) es all;
-          well = all_true (is_well (table_of p.tables)) es (All-weaker (CanRewrite user) (λ (e : Entry). is_well (table_of p.tables) e ≡ true) (λ e k. k.restorable.well) es all);
-          users = all_true (λ (e : Entry). is_short e.user) es (All-weaker (CanRewrite user) (λ (e : Entry). is_short e.user ≡ true) (λ e k. ap is_short k.by_user ∙ short) es all);
+          well = list_all-from_AllPass (is_well (table_of p.tables)) es (All-weaker (CanRewrite user) (λ (e : Entry). is_well (table_of p.tables) e ≡ true) (λ e k. k.restorable.well) es all);
+          users = list_all-from_AllPass (λ (e : Entry). is_short e.user) es (All-weaker (CanRewrite user) (λ (e : Entry). is_short e.user ≡ true) (λ e k. ap is_short k.by_user ∙ short) es all);
         };
-        kept = all_true can_keep_entry es (All-weaker (CanRewrite user) (λ (e : Entry). can_keep_entry e ≡ true) (λ e k. k.restorable.kept) es all);
+        kept = list_all-from_AllPass can_keep_entry es (All-weaker (CanRewrite user) (λ (e : Entry). can_keep_entry e ≡ true) (λ e k. k.restorable.kept) es all);
         sorted = entries_sorted m user ds;
         apart = entries_apart m user ds;
         copied = All-weaker (CanRewrite user) (IsCopied p) (λ e k. k.restorable.copied) es all;

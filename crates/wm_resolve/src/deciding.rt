@@ -107,9 +107,9 @@ fn copies_of(
 {
     let _till = conflict.period.till();
     let shown = shown_of(alloc, image, version, table, &conflict.key, last.take())?;
-    let copies = copies_on(alloc, image, shown.pieces.list(), conflict.period)?;
+    let copies = copies_on(alloc, image, shown.pieces.list(), conflict.period);
     *last = Some(shown);
-    Ok(copies)
+    copies
 }
 
 /// What is copied of a stretch of conflict, or None where it is passed over.
@@ -145,38 +145,32 @@ fn copied_on(
     }
 }
 
-/// The decision on a stretch of conflict, at the length of the parent's log, where it is not passed over.
-fn decision_on(
+/// Puts the decision on a stretch of conflict, at the length of the parent's log, behind others, where it is not passed
+/// over.
+fn push_decision(
     alloc: Global,
     image: &Image,
     deciding: Deciding<'_>,
     conflict: &Conflict,
     last: &mut Option<Shown>,
-) -> Result<Option<Decision>, Memory>
+    decisions: &mut Vec<Decision>,
+) -> Result<(), Memory>
     requires rules { keep_rules (parts_of image.now) ≡ true }
     requires last { IfSome last.old (Shows (parts_of image.now) (version_kept (parts_of image.now) deciding.keep deciding.space.now deciding.parent.now) deciding.table.now.number) }
     ensures last { OnOk result (IfSome last.new (Shows (parts_of image.now) (version_kept (parts_of image.now) deciding.entry.keep deciding.entry.space.now deciding.entry.parent.now) deciding.entry.table.now.number)) }
-    ensures made { IfOk result (λ made. (s : Sides) → TellSides (parts_of image.now) deciding.entry.space.now deciding.entry.parent.now s → made ≡ decided_on deciding.entry.keep s (conflict_pair deciding.entry.table.now.number conflict.now)) }
+    ensures made { OnOk result ((s : Sides) → TellSides (parts_of image.now) deciding.entry.space.now deciding.entry.parent.now s → decisions.new.items ≡ decisions.old.items ++ option_to_list (decided_on deciding.entry.keep s (conflict_pair deciding.entry.table.now.number conflict.now))) }
 {
-    match copied_on(alloc, image, deciding, conflict, last)? {
-        Some(copied) => Ok(Some(Decision::new(
-            deciding.table.number,
-            conflict.key.copy(alloc)?,
-            conflict.period,
-            copied,
-            deciding.parent.log_length,
-        ))),
-        None => Ok(None),
-    }
-}
-
-/// Puts a decision behind others, where it is made.
-fn push_made(decisions: &mut Vec<Decision>, made: Option<Decision>) -> Result<(), Memory>
-    ensures { OnOk result (decisions.new.items ≡ decisions.old.items ++ option_to_list made) }
-{
-    if let Some(decision) = made {
-        decisions.push(decision)?;
-    }
+    let Some(copied) = copied_on(alloc, image, deciding, conflict, last)? else {
+        return Ok(());
+    };
+    let key = conflict.key.copy(alloc)?;
+    decisions.push(Decision::new(
+        deciding.table.number,
+        key,
+        conflict.period,
+        copied,
+        deciding.parent.log_length,
+    ))?;
     Ok(())
 }
 
@@ -193,8 +187,7 @@ fn decisions_on(
     let mut decisions = Vec::new(alloc);
     let mut last = None;
     for conflict in found {
-        let made = decision_on(alloc, image, deciding, conflict, &mut last)?;
-        push_made(&mut decisions, made)?;
+        push_decision(alloc, image, deciding, conflict, &mut last, &mut decisions)?;
     }
     Ok(decisions)
 }

@@ -5,7 +5,7 @@ use Rattle.wm_model.specs.Step.Sessions as settings
 use Rattle.wm_plan.proofs.Planning.{told}
 use Rattle.wm_plan.specs.Views.{answer_view, seating_view}
 use Rattle.wm_resolve.proofs.CommittingLine.{commit_empty, commit_to}
-use Rattle.wm_resolve.proofs.Decided.{none_of}
+use Rattle.wm_model.proofs.MergedEdits.{nothing_listed}
 use Rattle.wm_resolve.proofs.OpeningLine.{resolve_closed, resolve_nameless}
 use Rattle.wm_resolve.proofs.Plans.{opens_named, sets_open}
 use Rattle.wm_resolve.proofs.committing.commit_resolve.Goals as goal
@@ -28,7 +28,7 @@ returns-then-is_empty-clause-does c =
     sets_open c.args.image.now c.args.moment c.args.session.now c.setting.result (Set c.args.session.now.name settings.End) (commit_resolve c.args.session.now c.args.name.now) c.setting.ensures.edits c.setting.ensures.seating
     c.setting.ensures.answer
     (λ xs. commit_empty c.args.image.now xs c.args.moment c.args.session.now c.args.name.now c.in-Some.space.now (record { rules = c.requires.rules; found = sym c.in-Some.ensures }) (sym c.has_open.ensures ∙ c.if-not-has_open.false)
-    (sym c.decisions_of-decisions.ensures ∙ none_of c.decisions_of-decisions.result.now (sym c.is_empty.ensures ∙ c.if-is_empty.true)))
+    (sym c.decisions_of-decisions.ensures ∙ nothing_listed c.decisions_of-decisions.result.now (sym c.is_empty.ensures ∙ c.if-is_empty.true)))
 
 pub returns-clause-does : goal.returns-clause-does
 returns-clause-does c =

@@ -12,14 +12,15 @@ use Rattle.wm_plan.specs.declared.seating.Seating.TheVariants as plan_seatings
 use Rattle.wm_plan.specs.declared.session.Setting.TheVariants as plan_settings
 use Rattle.wm_print.specs.Texts.{Done}
 use Rattle.wm_state.specs.State.{Decision}
-use Rattle.wm_resolve.proofs.Decided.{none_of, some_of}
+use Rattle.wm_model.proofs.MergedEdits.{nothing_listed}
+use Rattle.wm_resolve.proofs.Decided.{some_of}
 use Rattle.wm_resolve.proofs.DecidingLine.{decides_none, decides_unstaged, does_decide}
 use Rattle.wm_resolve.proofs.deciding.decide.Goals as goal
 
 pub returns-then-is_empty-clause-does : goal.returns-then-is_empty-clause-does
 returns-then-is_empty-clause-does c = λ xs m act decides.
     told c.args.image.now xs m c.answered.result [] Stay (Done 0) act c.answered.ensures.edits (ap seating_view c.answered.ensures.seating) (ap answer_view c.answered.ensures.answer)
-    (decides_none c.args.image.now xs m c.args.session.now c.args.decisions.items act decides (none_of c.args.decisions.items (ap (λ (ds : List Decision). length ds == 0) (sym c.as_slice-list.ensures.value) ∙ sym c.is_empty.ensures ∙ c.if-is_empty.true)))
+    (decides_none c.args.image.now xs m c.args.session.now c.args.decisions.items act decides (nothing_listed c.args.decisions.items (ap (λ (ds : List Decision). length ds == 0) (sym c.as_slice-list.ensures.value) ∙ sym c.is_empty.ensures ∙ c.if-is_empty.true)))
 
 pub returns-then-not-are_staged-clause-does : goal.returns-then-not-are_staged-clause-does
 returns-then-not-are_staged-clause-does c = λ xs m act decides.
