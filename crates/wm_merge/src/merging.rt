@@ -28,10 +28,11 @@ use wm_pending::net::net_own;
 use wm_pending::own::own_pieces;
 use wm_plan::answer::Answer;
 use wm_plan::planned::Planned;
-use wm_plan::refuse::{at_its_end, no_parent, no_workspace, not_built};
+use wm_plan::refuse::{no_parent, no_workspace, not_built};
 use wm_plan::resolving::resolving_refusal;
 use wm_plan::session::Session;
 use wm_plan::work::{is_long, is_spent};
+use wm_space::ending::ended;
 use wm_spec::record::Space;
 use wm_state::edit::{Edit, NewEntry};
 
@@ -183,10 +184,10 @@ fn merge_with(
         return Ok(Planned::answered(alloc, Answer::Fine));
     }
     if are_long(family, &brought) {
-        return Ok(Planned::answered(alloc, at_its_end(alloc, b"LOG")?));
+        return ended(alloc, b"LOG");
     }
     if is_spent(&image.counters()) {
-        return Ok(Planned::answered(alloc, at_its_end(alloc, b"WORK")?));
+        return ended(alloc, b"WORK");
     }
     let (own, gained) = (brought.own.as_slice(), brought.gained.as_slice());
     if !can_merge(image, family.space, own, gained) {
@@ -216,8 +217,8 @@ fn merge_into(
     let Family { space, parent } = family;
     let user = session.user();
     let pieces = own_pieces(alloc, image, space)?;
-    let found = first_clash(alloc, image, space, parent, pieces.as_slice())?;
     let own = net_own(alloc, image, space, pieces.as_slice(), moment, user)?;
+    let found = first_clash(alloc, image, space, parent, pieces.as_slice())?;
     if let Some(refusal) = merging_refusal(
         alloc,
         image,

@@ -32,11 +32,12 @@ use wm_pending::gained::gained;
 use wm_pending::own::own_pieces;
 use wm_plan::answer::Answer;
 use wm_plan::planned::Planned;
-use wm_plan::refuse::{at_its_end, no_parent, no_workspace, not_built};
+use wm_plan::refuse::{no_parent, no_workspace, not_built};
 use wm_plan::resolving::resolving_refusal;
 use wm_plan::seating::Seating;
 use wm_plan::session::Session;
 use wm_plan::work::{is_long, is_spent};
+use wm_space::ending::ended;
 use wm_spec::record::Space;
 use wm_state::edit::{Edit, NewEntry};
 
@@ -129,10 +130,10 @@ fn refresh_with(
     ensures edits { IfOk result (λ p. (p.edits.items ≡ []) ⊎ (p.edits.items ≡ refresh_edits space.now.number entries)) }
 {
     if is_long(space.log_length, entries.as_slice()) {
-        return Ok(Planned::answered(alloc, at_its_end(alloc, b"LOG")?));
+        return ended(alloc, b"LOG");
     }
     if is_spent(&image.counters()) {
-        return Ok(Planned::answered(alloc, at_its_end(alloc, b"WORK")?));
+        return ended(alloc, b"WORK");
     }
     if !can_refresh(image, space, own, entries.as_slice()) {
         return Ok(Planned::answered(alloc, not_built()));

@@ -1,8 +1,10 @@
-use Rattle.std.proofs.Common.{◌&&◌, ◌||◌, not, Bool, map, sym, ap, ◌∙◌, codes, inl, inr}
+use Rattle.std.proofs.Common.{[], ◌&&◌, ◌||◌, not, Bool, map, sym, ap, ◌∙◌, codes, inl, inr}
+use Rattle.std.proofs.lemmas.Result.{IfOk-weaker}
 use Rattle.wm_model.proofs.MergingLine.{does_merge, merge_idle, merge_long, merge_spent, merge_unready}
 use Rattle.wm_model.specs.Merged.{is_even_at, merge_edits}
 use Rattle.wm_model.specs.Planning.{Stay}
 use Rattle.wm_model.specs.Step.{at_its_end, counter_limit, merge_workspace, not_built}
+use Rattle.wm_space.proofs.Ended.{told_ended}
 use Rattle.wm_plan.proofs.Planning.{early, told}
 use Rattle.wm_plan.specs.Views.{answer_view, seating_view}
 use Rattle.wm_print.specs.Texts.{Fine}
@@ -21,23 +23,25 @@ returns-then-is_idle-clause-does c = λ xs session workspace merges.
     ∙ sym c.if-is_idle.ensures))
 
 pub returns-then-are_long-clause-does : goal.returns-then-are_long-clause-does
-returns-then-are_long-clause-does c = λ xs session workspace merges.
-    told_nothing c.args.image.now xs c.args.moment c.answered-then-are_long.result (at_its_end (codes "LOG")) (merge_workspace session (asked_view c.args.asked) workspace) c.answered-then-are_long.ensures.edits
-    c.answered-then-are_long.ensures.seating (ap answer_view c.answered-then-are_long.ensures.answer ∙ c.in_ok-at_its_end.ensures)
+returns-then-are_long-clause-does c =
+    told_ended c.ended.result (codes "LOG") _ c.ended.ensures.edits c.ended.ensures.seating c.ended.ensures.answer
+    (λ p edits seats says xs session workspace merges.
+    told c.args.image.now xs c.args.moment p [] Stay (at_its_end (codes "LOG")) (merge_workspace session (asked_view c.args.asked) workspace) edits seats says
     (merge_long c.args.image.now xs c.args.moment session workspace (asked_view c.args.asked) c.args.family.space.now c.args.family.parent.now (map entry_of c.args.brought.own.items) (map entry_of c.args.brought.gained.items) merges
     (ap (λ e. e && not (c.args.asked.keeps || c.args.asked.removes)) (sym (even_told c.args.family.space.now c.args.family.parent.now c.as_slice.result.now c.args.brought.own.items c.is_even-even.result c.as_slice.ensures.value c.is_even-even.ensures))
     ∙ sym c.if-is_idle.ensures)
-    (sym c.if-are_long.ensures))
+    (sym c.if-are_long.ensures)))
 
 pub returns-then-is_spent-clause-does : goal.returns-then-is_spent-clause-does
-returns-then-is_spent-clause-does c = λ xs session workspace merges.
-    told_nothing c.args.image.now xs c.args.moment c.answered-then-is_spent.result (at_its_end (codes "WORK")) (merge_workspace session (asked_view c.args.asked) workspace) c.answered-then-is_spent.ensures.edits
-    c.answered-then-is_spent.ensures.seating (ap answer_view c.answered-then-is_spent.ensures.answer ∙ c.in_ok-at_its_end-2.ensures)
+returns-then-is_spent-clause-does c =
+    told_ended c.ended-then-is_spent.result (codes "WORK") _ c.ended-then-is_spent.ensures.edits c.ended-then-is_spent.ensures.seating c.ended-then-is_spent.ensures.answer
+    (λ p edits seats says xs session workspace merges.
+    told c.args.image.now xs c.args.moment p [] Stay (at_its_end (codes "WORK")) (merge_workspace session (asked_view c.args.asked) workspace) edits seats says
     (merge_spent c.args.image.now xs c.args.moment session workspace (asked_view c.args.asked) c.args.family.space.now c.args.family.parent.now (map entry_of c.args.brought.own.items) (map entry_of c.args.brought.gained.items)
     c.counters.result merges
     (ap (λ e. e && not (c.args.asked.keeps || c.args.asked.removes)) (sym (even_told c.args.family.space.now c.args.family.parent.now c.as_slice.result.now c.args.brought.own.items c.is_even-even.result c.as_slice.ensures.value c.is_even-even.ensures))
     ∙ sym c.if-is_idle.ensures)
-    (sym c.if-are_long.ensures) c.counters.ensures (sym c.if-is_spent.ensures))
+    (sym c.if-are_long.ensures) c.counters.ensures (sym c.if-is_spent.ensures)))
 
 pub returns-then-not-can_merge-clause-does : goal.returns-then-not-can_merge-clause-does
 returns-then-not-can_merge-clause-does c = λ xs session workspace merges.
@@ -71,10 +75,10 @@ pub returns-then-is_idle-clause-edits : goal.returns-then-is_idle-clause-edits
 returns-then-is_idle-clause-edits c = inl c.answered.ensures.edits
 
 pub returns-then-are_long-clause-edits : goal.returns-then-are_long-clause-edits
-returns-then-are_long-clause-edits c = inl c.answered-then-are_long.ensures.edits
+returns-then-are_long-clause-edits c = IfOk-weaker c.ended.result _ _ (λ p none. inl none) c.ended.ensures.edits
 
 pub returns-then-is_spent-clause-edits : goal.returns-then-is_spent-clause-edits
-returns-then-is_spent-clause-edits c = inl c.answered-then-is_spent.ensures.edits
+returns-then-is_spent-clause-edits c = IfOk-weaker c.ended-then-is_spent.result _ _ (λ p none. inl none) c.ended-then-is_spent.ensures.edits
 
 pub returns-then-not-can_merge-clause-edits : goal.returns-then-not-can_merge-clause-edits
 returns-then-not-can_merge-clause-edits c = inl c.answered-then-not-can_merge.ensures.edits
