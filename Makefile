@@ -12,8 +12,8 @@
 #   make wrong   tries wrong bodies that the gate leaves out, since the proof of their crates is dear: each must be refused
 #   make edge    tries two runs at once, closed and full streams, full disks, scripts without an end, and paths and words that are none
 #   make bench   times 10,000 INSERT lines, a SELECT of them, SELECT and UPDATE lines by key, and a join of two tables of 1,000 rows;
-#                how much longer a SELECT and INSERT lines take behind 1,000 merges than behind one; and a load of 100,000 lines,
-#                of which the last may take at most half as long again as the first
+#                how much longer a SELECT and INSERT lines take behind 1,000 merges than behind one; a load of 100,000 lines,
+#                of which the last may take at most half as long again as the first; and figures beside their bounds
 
 RT ?= rt
 PYTHON ?= python3
@@ -85,6 +85,7 @@ bench: build/wm
 	$(PYTHON) bench/statements.py build/wm
 	$(PYTHON) bench/merges.py build/wm
 	$(PYTHON) bench/load.py build/wm
+	$(PYTHON) bench/figures.py build/wm
 
 install: build/wm
 	install -D -m 755 build/wm "$(DESTDIR)$(PREFIX)/bin/wm"
