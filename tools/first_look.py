@@ -1,7 +1,7 @@
 #!/usr/bin/env python3
 """python3 tools/first_look.py [RT]
 
-Plays the examples through the program as 'rt try' compiles it, in two or three minutes and without any proof, and shows
+Plays the examples through the program as 'rt try' compiles it, in a minute and a half and without any proof, and shows
 each line with its answer. What it makes is below build/try: the store, and a page with pictures of it.
 """
 import shutil
@@ -67,7 +67,7 @@ def show(script, said):
 
 def main():
     prepare()
-    print("The program is compiled, and not proved; that takes two or three minutes, and longer beside other work ..", flush=True)
+    print("The program is compiled, and not proved; that takes a minute and a half, and longer beside other work ..", flush=True)
     call = [*(sys.argv[1:] or ["rt"]), "try", "--cases", str(CASES)]
     done = subprocess.run(call, cwd=TOP / "crates" / "wm", stdout=subprocess.PIPE)
     found = answers(done.stdout)
