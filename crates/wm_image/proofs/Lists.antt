@@ -9,7 +9,7 @@ use Rattle.wm_spec.specs.Records.{record_at}
 use Rattle.wm_spec.specs.declared.record.Record.{Record}
 use Rattle.wm_spec.specs.declared.record.stored.Stored.{Stored}
 use Rattle.wm_state.specs.ById.{AllAbove, Ascend, perhaps_before, set_at}
-use Rattle.wm_index.proofs.IdLists.{less_is}
+use Rattle.wm_index.proofs.IdLists.{greater_is, less_is}
 use Rattle.wm_index.proofs.Lists.{ids_of, record_at-none, record_at-here, record_at-away}
 use Rattle.wm_index.proofs.Lists as index
 use Rattle.wm_index.specs.Sought.{ids_with, placed, without, ids_less, ids_more}
@@ -28,10 +28,10 @@ without-cons : (id x : ℕ) (xs : List ℕ) → x ≢ id → without id (x ∷ x
 without-cons id x xs away = rw (ne_eqb x id away) refl
 
 placed-front : (id x : ℕ) (xs : List ℕ) → id < x → placed id (x ∷ xs) ≡ id ∷ x ∷ xs
-placed-front id x xs lt = ap (λ b. cond b (x ∷ placed id xs) (id ∷ x ∷ xs)) (le-ltb x id (omega (arith, lt)))
+placed-front id x xs lt = rw (less_is id x lt) refl
 
 placed-later : (id x : ℕ) (xs : List ℕ) → x < id → placed id (x ∷ xs) ≡ x ∷ placed id xs
-placed-later id x xs lt = ap (λ b. cond b (x ∷ placed id xs) (id ∷ x ∷ xs)) (lt-ltb x id lt)
+placed-later id x xs lt = rw (greater_is id x lt) refl
 
 placed-above : (p : Record → Bool) (id : ℕ) (ss : List Stored) → AllAbove id ss → placed id (ids_with p ss) ≡ id ∷ ids_with p ss
 placed-above p id [] above = refl

@@ -49,6 +49,7 @@ use wm_index::keyed::{ids_of, ids_on, ids_since, last_key};
 use wm_index::kinds;
 use wm_index::records::{Kept, at, first, next_id};
 use wm_index::savepoints::{making_after, savepoint_in, savepoint_of_name};
+use wm_index::sets::ids_under;
 use wm_index::spaces::{number_after, space_of_name};
 use wm_index::tables::{id_named, table_of_number};
 use wm_index::versioned::{Versioned, ids_of_version, keys_on, versions_of_key};
@@ -402,18 +403,20 @@ impl Image {
     }
 
     /// The ids of the pieces of a version, in order.
-    pub fn pieces_in(&self, version: u64) -> &[u64]
-        ensures { result.now ≡ ids_with (is_sought (PiecesIn version)) self.now }
+    pub fn pieces_in(&self, alloc: Global, version: u64) -> Result<Vec<u64>, Memory>
+        ensures { IfOk result (λ ids. ids.items ≡ ids_with (is_sought (PiecesIn version)) self.now) }
     {
-        ids_of(&self.index.pieces_in, &version)
+        let ids = ids_under(alloc, &self.index.pieces_in, &version)?;
+        Ok(ids)
     }
 
     /// The ids of the records of a workspace, in order: itself, its versions, savepoints, touches, locks, entries of
     /// its log, marks and turns.
-    pub fn records_of(&self, space: u32) -> &[u64]
-        ensures { result.now ≡ ids_with (is_sought (OwnedBy space)) self.now }
+    pub fn records_of(&self, alloc: Global, space: u32) -> Result<Vec<u64>, Memory>
+        ensures { IfOk result (λ ids. ids.items ≡ ids_with (is_sought (OwnedBy space)) self.now) }
     {
-        ids_of(&self.index.owned, &space)
+        let ids = ids_under(alloc, &self.index.owned, &space)?;
+        Ok(ids)
     }
 
     /// The ids of the touches of a workspace whose last entry stands in its log at a position or behind it.
@@ -428,8 +431,8 @@ impl Image {
     pub fn hists(&self, alloc: Global, space: u32, table: u16) -> Result<Vec<u64>, Memory>
         ensures { IfOk result (λ ids. AreByPosition (kind_at as_hist self.now ids.items) (logged_on space table (parts_of self.now).hists)) }
     {
-        let log = ids_of(&self.index.hists_on, &(space, table));
-        let ids = ids_by_position(alloc, &self.kept, log)?;
+        let log = ids_under(alloc, &self.index.hists_on, &(space, table))?;
+        let ids = ids_by_position(alloc, &self.kept, log.as_slice())?;
         Ok(ids)
     }
 

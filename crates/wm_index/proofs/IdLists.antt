@@ -20,14 +20,29 @@ less_than m n e = by_test (nat_lt m n) (m == n) refl e
 pub less_is : (m n : ℕ) → m < n → nat_cmp m n ≡ Less
 less_is m n lt = ap (λ b. cond b Less (cond (eqb m n) Equal Greater)) (lt-ltb m n lt)
 
--- an id put behind smaller ones, before one that is not smaller or at the end
-placed_at : (id : ℕ) (xs : List ℕ) (i : ℕ) → i ≤ length xs → ((k : ℕ) → k < i → get_or xs k 0 < id) → (i < length xs → id ≤ get_or xs i 0) → insert xs i id ≡ placed id xs
+pub greater_is : (m n : ℕ) → n < m → nat_cmp m n ≡ Greater
+greater_is m n lt =
+    ap (λ b. cond b Less (cond (eqb m n) Equal Greater)) (le-ltb m n (omega (arith, lt))) ∙ ap (λ b. cond b Equal Greater) (ne_eqb m n (λ e. absurd (omega (arith, lt, e))))
+
+pub equal_is : (m n : ℕ) → m ≡ n → nat_cmp m n ≡ Equal
+equal_is m n same = ap (λ b. cond b Less (cond (eqb m n) Equal Greater)) (le-ltb m n (omega (arith, same))) ∙ ap (λ b. cond b Equal Greater) (eq-eqb m n same)
+
+-- an id put behind smaller ones, before a greater one or at the end
+placed_at : (id : ℕ) (xs : List ℕ) (i : ℕ) → i ≤ length xs → ((k : ℕ) → k < i → get_or xs k 0 < id) → (i < length xs → id < get_or xs i 0) → insert xs i id ≡ placed id xs
 placed_at id [] zero within below more = refl
 placed_at id [] (suc i) within below more = absurd (omega (arith, within))
-placed_at id (y ∷ ys) zero within below more = ap (λ b. cond b (y ∷ placed id ys) (id ∷ y ∷ ys)) (sym (le-ltb _ _ (more (omega arith))))
+placed_at id (y ∷ ys) zero within below more = rw (less_is id y (more (omega arith))) refl
 placed_at id (y ∷ ys) (suc i) within below more =
     ap (λ l. y ∷ l) (placed_at id ys i (omega (arith, within)) (λ k less. below (suc k) (omega (arith, less))) (λ less. more (omega (arith, less))))
-    ∙ ap (λ b. cond b (y ∷ placed id ys) (id ∷ y ∷ ys)) (sym (lt-ltb _ _ (below zero (omega arith))))
+    ∙ rw (greater_is id y (below zero (omega arith))) refl
+
+-- an id that stands behind smaller ones
+placed_there : (id : ℕ) (xs : List ℕ) (i : ℕ) → i < length xs → get_or xs i 0 ≡ id → ((k : ℕ) → k < i → get_or xs k 0 < id) → placed id xs ≡ xs
+placed_there id [] i within is below = absurd (omega (arith, within))
+placed_there id (y ∷ ys) zero within is below = rw (equal_is id y (sym is)) refl
+placed_there id (y ∷ ys) (suc i) within is below =
+    rw (greater_is id y (below zero (omega arith)))
+    (ap (λ l. y ∷ l) (placed_there id ys i (omega (arith, within)) is (λ k less. below (suc k) (omega (arith, less)))))
 
 -- an id taken out behind smaller ones
 removed_at : (id : ℕ) (xs : List ℕ) (i : ℕ) → i < length xs → get_or xs i 0 ≡ id → ((k : ℕ) → k < i → get_or xs k 0 < id) → remove xs i ≡ without id xs
@@ -53,13 +68,13 @@ rises xs sorted i j le within = by_place (cases_lt i j)
         same : (m n : ℕ) → m ≡ n → get_or xs m 0 ≤ get_or xs n 0
         same m n e = rw e (omega arith)
 
--- a search finds the place where an id is to stand
+-- a search finds the place where an id is to stand, if it is not there
 pub place_searched : (id : ℕ) (xs : List ℕ) (r : Result ℕ ℕ) → IsStrictlySortedBy nat_cmp xs → IsBinarySearchResult (λ y. nat_cmp y id) xs r
-    → MatchResult r (λ i. (i ≤ length xs) × (insert xs i id ≡ placed id xs)) (λ i. (i ≤ length xs) × (insert xs i id ≡ placed id xs))
+    → MatchResult r (λ i. placed id xs ≡ xs) (λ i. (i ≤ length xs) × (insert xs i id ≡ placed id xs))
 place_searched id xs r sorted found =
     MatchResult-weaker r (searched xs id r found (rises xs sorted))
-    (λ i h. (omega (arith, h.0), placed_at id xs i (omega (arith, h.0)) (λ k less. (let lt = below_from_sorted xs k i 0 sorted less h.0 in omega (arith, lt, h.1))) (λ less. omega (arith, h.1))))
-    (λ i h. (h.0, placed_at id xs i h.0 h.1 (λ less. (let lt = h.2 i (omega arith) less in omega (arith, lt)))))
+    (λ i h. placed_there id xs i h.0 h.1 (λ k less. (let lt = below_from_sorted xs k i 0 sorted less h.0 in omega (arith, lt, h.1))))
+    (λ i h. (h.0, placed_at id xs i h.0 h.1 (λ less. h.2 i (omega arith) less)))
 
 -- and where it stands, if it is there
 pub found_searched : (id : ℕ) (xs : List ℕ) (r : Result ℕ ℕ) → IsStrictlySortedBy nat_cmp xs → IsBinarySearchResult (λ y. nat_cmp y id) xs r

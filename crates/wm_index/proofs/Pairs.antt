@@ -2,6 +2,7 @@
 use Rattle.std.proofs.Common.{◌≡◌, ℕ, ◌==◌, ◌&&◌, Bool, true, false, cond, List, refl, sym, ap, ap₂, ◌∙◌}
 use Rattle.std.proofs.lemmas.Map.Lookups.{exact_pairs, exact_unsigned}
 use Rattle.std.specs.BTreeMap.{BTreeMap}
+use Rattle.std.specs.BTreeSet.{BTreeSet}
 use Rattle.std.specs.Cmp.{Equal-is, tied_then}
 use Rattle.std.specs.Ordering.{nat_cmp, is_eq}
 use Rattle.std.specs.declared.alloc.Global.{Global}
@@ -14,7 +15,7 @@ use Rattle.wm_base.specs.Key.{key_order}
 use Rattle.wm_base.specs.declared.value.Value.{Value}
 use Rattle.wm_index.proofs.TableLists.{is_at-number}
 use Rattle.wm_index.specs.Indexed.{ids_at}
-use Rattle.wm_index.specs.Sought.{Sought, OwnedBy, TouchAt, TouchesAt, TurnAt, HistsOn, Keyed, ids_in, is_sought, pair_order, piece_ids}
+use Rattle.wm_index.specs.Sought.{Sought, OwnedBy, TouchAt, TouchesAt, TurnAt, HistsOn, Keyed, ids_among, ids_in, is_sought, pair_order, piece_ids}
 use Rattle.wm_index.specs.declared.index.Index.{Index}
 
 -- a test for `Equal` is a test for the same numbers
@@ -41,30 +42,30 @@ changed_number change f m n = by_test (is_eq (nat_cmp m n)) refl ∙ ap (λ b. c
     by_test false apart = refl
 
 -- the ids under the keys of a turn are changed
-pub turn_changed : (change : List ℕ → List ℕ) (old : Index) (owned : BTreeMap ℕ (Vec ℕ Global)) (turns : BTreeMap (ℕ × ℕ) (Vec ℕ Global)) (r : Turn)
-    → ((q : ℕ) → ids_in nat_cmp owned.entries q ≡ cond (is_eq (nat_cmp r.space q)) (change (ids_in nat_cmp old.owned.entries r.space)) (ids_in nat_cmp old.owned.entries q))
+pub turn_changed : (change : List ℕ → List ℕ) (old : Index) (owned : BTreeMap ℕ (BTreeSet ℕ)) (turns : BTreeMap (ℕ × ℕ) (Vec ℕ Global)) (r : Turn)
+    → ((q : ℕ) → ids_among nat_cmp owned.entries q ≡ cond (is_eq (nat_cmp r.space q)) (change (ids_among nat_cmp old.owned.entries r.space)) (ids_among nat_cmp old.owned.entries q))
     → ((q : ℕ × ℕ) → ids_in pair_order turns.entries q ≡ cond (is_eq (pair_order (r.space, r.rebase) q)) (change (ids_in pair_order old.turns_at.entries (r.space, r.rebase))) (ids_in pair_order old.turns_at.entries q))
     → (q : Sought) → ids_at (record old { owned = owned; turns_at = turns }) q ≡ cond (is_sought q (records.Turn r)) (change (ids_at old q)) (ids_at old q)
-turn_changed change old owned turns r by_space by_number (OwnedBy space) = by_space space ∙ changed_number change (ids_in nat_cmp old.owned.entries) r.space space
+turn_changed change old owned turns r by_space by_number (OwnedBy space) = by_space space ∙ changed_number change (ids_among nat_cmp old.owned.entries) r.space space
 turn_changed change old owned turns r by_space by_number (TurnAt space number) = by_number (space, number) ∙ changed_pair change (ids_in pair_order old.turns_at.entries) (r.space, r.rebase) (space, number)
 turn_changed change old owned turns r by_space by_number _ = refl
 
 -- the ids under the keys of an entry of a log are changed
-pub hist_changed : (change : List ℕ → List ℕ) (old : Index) (owned : BTreeMap ℕ (Vec ℕ Global)) (hists : BTreeMap (ℕ × ℕ) (Vec ℕ Global)) (r : Hist)
-    → ((q : ℕ) → ids_in nat_cmp owned.entries q ≡ cond (is_eq (nat_cmp r.space q)) (change (ids_in nat_cmp old.owned.entries r.space)) (ids_in nat_cmp old.owned.entries q))
-    → ((q : ℕ × ℕ) → ids_in pair_order hists.entries q ≡ cond (is_eq (pair_order (r.space, r.cells.table) q)) (change (ids_in pair_order old.hists_on.entries (r.space, r.cells.table))) (ids_in pair_order old.hists_on.entries q))
+pub hist_changed : (change : List ℕ → List ℕ) (old : Index) (owned : BTreeMap ℕ (BTreeSet ℕ)) (hists : BTreeMap (ℕ × ℕ) (BTreeSet ℕ)) (r : Hist)
+    → ((q : ℕ) → ids_among nat_cmp owned.entries q ≡ cond (is_eq (nat_cmp r.space q)) (change (ids_among nat_cmp old.owned.entries r.space)) (ids_among nat_cmp old.owned.entries q))
+    → ((q : ℕ × ℕ) → ids_among pair_order hists.entries q ≡ cond (is_eq (pair_order (r.space, r.cells.table) q)) (change (ids_among pair_order old.hists_on.entries (r.space, r.cells.table))) (ids_among pair_order old.hists_on.entries q))
     → (q : Sought) → ids_at (record old { owned = owned; hists_on = hists }) q ≡ cond (is_sought q (records.Hist r)) (change (ids_at old q)) (ids_at old q)
-hist_changed change old owned hists r by_space by_log (OwnedBy space) = by_space space ∙ changed_number change (ids_in nat_cmp old.owned.entries) r.space space
-hist_changed change old owned hists r by_space by_log (HistsOn space table) = by_log (space, table) ∙ changed_pair change (ids_in pair_order old.hists_on.entries) (r.space, r.cells.table) (space, table)
+hist_changed change old owned hists r by_space by_log (OwnedBy space) = by_space space ∙ changed_number change (ids_among nat_cmp old.owned.entries) r.space space
+hist_changed change old owned hists r by_space by_log (HistsOn space table) = by_log (space, table) ∙ changed_pair change (ids_among pair_order old.hists_on.entries) (r.space, r.cells.table) (space, table)
 hist_changed change old owned hists r by_space by_log _ = refl
 
 -- the ids under the keys of a touch are changed
-pub touch_changed : (change : List ℕ → List ℕ) (old : Index) (owned : BTreeMap ℕ (Vec ℕ Global)) (touched : BTreeMap (ℕ × ℕ) (Vec ℕ Global)) (touches : BTreeMap ℕ Keyed) (r : Trace)
-    → ((q : ℕ) → ids_in nat_cmp owned.entries q ≡ cond (is_eq (nat_cmp r.space q)) (change (ids_in nat_cmp old.owned.entries r.space)) (ids_in nat_cmp old.owned.entries q))
+pub touch_changed : (change : List ℕ → List ℕ) (old : Index) (owned : BTreeMap ℕ (BTreeSet ℕ)) (touched : BTreeMap (ℕ × ℕ) (Vec ℕ Global)) (touches : BTreeMap ℕ Keyed) (r : Trace)
+    → ((q : ℕ) → ids_among nat_cmp owned.entries q ≡ cond (is_eq (nat_cmp r.space q)) (change (ids_among nat_cmp old.owned.entries r.space)) (ids_among nat_cmp old.owned.entries q))
     → ((q : ℕ × ℕ) → ids_in pair_order touched.entries q ≡ cond (is_eq (pair_order (r.space, r.position) q)) (change (ids_in pair_order old.touched_at.entries (r.space, r.position))) (ids_in pair_order old.touched_at.entries q))
     → ((t : ℕ) (k : List Value) → piece_ids touches.entries t k ≡ cond ((r.cells.table == t) && is_eq (key_order r.cells.key k)) (change (piece_ids old.touches.entries t k)) (piece_ids old.touches.entries t k))
     → (q : Sought) → ids_at (record old { owned = owned; touched_at = touched; touches = touches }) q ≡ cond (is_sought q (records.Touch r)) (change (ids_at old q)) (ids_at old q)
-touch_changed change old owned touched touches r by_space by_position by_key (OwnedBy space) = by_space space ∙ changed_number change (ids_in nat_cmp old.owned.entries) r.space space
+touch_changed change old owned touched touches r by_space by_position by_key (OwnedBy space) = by_space space ∙ changed_number change (ids_among nat_cmp old.owned.entries) r.space space
 touch_changed change old owned touched touches r by_space by_position by_key (TouchAt space position) =
     by_position (space, position) ∙ changed_pair change (ids_in pair_order old.touched_at.entries) (r.space, r.position) (space, position)
 touch_changed change old owned touched touches r by_space by_position by_key (TouchesAt table key) = by_key table key

@@ -4,7 +4,7 @@ use Rattle.std.proofs.Math.ListN.{set}
 use Rattle.std.proofs.lemmas.Bool.{cases_lt, cases_eq, eq-eqb, ne_eqb, eqb-true, le-ltb}
 use Rattle.std.specs.List.{AllByRecursion}
 use Rattle.std.specs.List.Sorted.{IsBinarySearchResult, IsNonDecreasingBy, IsPartitionPoint, IsSearchInRange}
-use Rattle.std.specs.Ordering.{nat_cmp, ordering_index}
+use Rattle.std.specs.Ordering.{match_ordering, nat_cmp, ordering_index}
 use Rattle.std.specs.declared.cmp.Ordering.{Ordering}
 use Rattle.std.specs.declared.cmp.Ordering.TheVariants.{Less, Equal, Greater}
 use Rattle.wm_index.proofs.IdLists.{less_is, less_than}
@@ -242,11 +242,12 @@ All-weaker P Q (x ∷ xs) weaker all = (weaker x all.0, All-weaker P Q xs weaker
 
 pub All-placed : (P : ℕ → Type 0) (id : ℕ) (xs : List ℕ) → P id → AllByRecursion P xs → AllByRecursion P (placed id xs)
 All-placed P id [] new all = (new, tt)
-All-placed P id (x ∷ xs) new all = by_test (nat_lt x id) (All-placed P id xs new all.1)
+All-placed P id (x ∷ xs) new all = by_order (nat_cmp id x) (All-placed P id xs new all.1)
   where
-    by_test : (b : Bool) → AllByRecursion P (placed id xs) → AllByRecursion P (cond b (x ∷ placed id xs) (id ∷ x ∷ xs))
-    by_test true rest = (all.0, rest)
-    by_test false rest = (new, all)
+    by_order : (o : Ordering) → AllByRecursion P (placed id xs) → AllByRecursion P (match_ordering o (id ∷ x ∷ xs) (x ∷ xs) (x ∷ placed id xs))
+    by_order Less rest = (new, all)
+    by_order Equal rest = all
+    by_order Greater rest = (all.0, rest)
 
 pub All-without : (P : ℕ → Type 0) (id : ℕ) (xs : List ℕ) → AllByRecursion P xs → AllByRecursion P (without id xs)
 All-without P id [] all = tt

@@ -1,5 +1,5 @@
 -- Ids under tables and keys.
-use Rattle.std.proofs.Common.{◌≡◌, ℕ, Bool, true, false, cond, ◌&&◌, eqb, List, [], Option, Some, None, refl, sym, ap, ◌∙◌, ◌⊎◌, inl, inr}
+use Rattle.std.proofs.Common.{◌≡◌, ℕ, Bool, true, false, cond, ◌&&◌, eqb, List, [], ◌∷◌, Option, Some, None, refl, sym, ap, ◌∙◌, ◌⊎◌, inl, inr}
 use Rattle.std.proofs.lemmas.Bool.{cases_Bool, cases_eq, eq-eqb, ne_eqb}
 use Rattle.std.proofs.lemmas.Cmp.{nat_cmp_total, tied_itself}
 use Rattle.std.proofs.lemmas.Map.Lookups.{exact_unsigned}
@@ -8,12 +8,13 @@ use Rattle.std.specs.Cmp.{Equal-is}
 use Rattle.std.specs.Map.{lookup}
 use Rattle.std.specs.Option.{option_map, unwrap_or}
 use Rattle.std.specs.Ordering.{nat_cmp, is_eq}
+use Rattle.std.specs.Set.{remove_key}
 use Rattle.std.specs.declared.alloc.Global.{Global}
 use Rattle.std.specs.declared.vec.Vec.{Vec}
 use Rattle.wm_base.specs.Key.{key_order}
 use Rattle.wm_base.specs.Orders.{key_order-equal}
 use Rattle.wm_base.specs.declared.value.Value.{Value}
-use Rattle.wm_index.specs.Sought.{Keyed, keyed_at, ids_in, piece_ids}
+use Rattle.wm_index.specs.Sought.{Keyed, keyed_at, ids_in, piece_ids, without}
 
 -- a test for `Equal` is a test for the same number
 pub is_at-number : (m n : ℕ) → is_at (nat_cmp m) n ≡ eqb m n
@@ -26,6 +27,16 @@ is_at-number m n = by_number (cases_eq m n)
         no_tie : (is_at (nat_cmp m) n ≡ true) ⊎ (is_at (nat_cmp m) n ≡ false) → is_at (nat_cmp m) n ≡ false
         no_tie (inl tie) = absurd (apart (exact_unsigned m n ((Equal-is (nat_cmp m n)).0 tie)))
         no_tie (inr e) = e
+
+-- an id taken out of a set is taken out of its list
+pub taken : (id : ℕ) (xs : List ℕ) → remove_key (is_at (nat_cmp id)) xs ≡ without id xs
+taken id [] = refl
+taken id (x ∷ xs) =
+    ap (λ b. cond b xs (x ∷ remove_key (is_at (nat_cmp id)) xs)) (is_at-number id x ∙ other_way (cases_eq x id)) ∙ ap (λ l. cond (eqb x id) xs (x ∷ l)) (taken id xs)
+  where
+    other_way : (x ≡ id) ⊎ (x ≡ id → ⊥) → eqb id x ≡ eqb x id
+    other_way (inl same) = eq-eqb id x (sym same) ∙ sym (eq-eqb x id same)
+    other_way (inr apart) = ne_eqb id x (λ e. apart (sym e)) ∙ sym (ne_eqb x id apart)
 
 -- what a look-up of a table or a workspace found
 abbrev pub keys_found : {K : Type 0} → {V : Type 0} → Option (BTreeMap K V) → List (K × V)

@@ -5,6 +5,7 @@ use Rattle.std.proofs.lemmas.Bool.{eqb-true}
 use Rattle.std.proofs.lemmas.Cmp.{tied_itself}
 use Rattle.std.proofs.lemmas.List.{nil_from_length}
 use Rattle.std.specs.BTreeMap.{BTreeMap, is_at}
+use Rattle.std.specs.BTreeSet.{BTreeSet}
 use Rattle.std.specs.Cmp.{Equal-is}
 use Rattle.std.specs.List.{AllByRecursion}
 use Rattle.std.specs.Map.{lookup}
@@ -19,7 +20,7 @@ use Rattle.wm_index.proofs.Pairs.{changed_number}
 use Rattle.wm_index.proofs.Placing.{All-without, fits_under, insert_rises, insert_spanned, insert_under, remove_rises, remove_spanned, remove_under, set_rises, set_spanned, set_under, stands_under, stands_version}
 use Rattle.wm_index.proofs.Widening.{next, one_spanned, put_widens, remove_widens, set_widens, there_spanned, widened_rises, widened_spanned, widened_under, widened_widens}
 use Rattle.wm_index.specs.Indexed.{ids_at}
-use Rattle.wm_index.specs.Sought.{Sought, PieceAt, PiecesIn, ids_in, is_sought, placed, without}
+use Rattle.wm_index.specs.Sought.{Sought, PieceAt, PiecesIn, ids_among, is_sought, placed, without}
 use Rattle.wm_index.specs.Versioned.{AreNested, ChangedOn, ChangedWhere, Encloses, FitsAt, HasLess, HasMore, IsSpanned, IsWithin, StandsAt, Versions, ids_under, versions_found, versions_in, versions_on, widened_from}
 use Rattle.wm_index.specs.declared.index.Index.{Index}
 use Rattle.wm_index.specs.declared.versioned.Versioned.{Versioned}
@@ -185,10 +186,10 @@ less_ids old next id x change t k v = by_tests (x.cells.table == t) (is_eq (key_
     by_tests false b same = ap (λ es. ids_under es v) same
 
 -- the ids under the keys of a piece are changed
-pub piece_changed : (change : List ℕ → List ℕ) (old : Index) (owned : BTreeMap ℕ (Vec ℕ Global)) (pieces : BTreeMap ℕ Versions) (r : PieceRecord)
-    → ((q : ℕ) → ids_in nat_cmp owned.entries q ≡ cond (is_eq (nat_cmp r.version q)) (change (ids_in nat_cmp old.pieces_in.entries r.version)) (ids_in nat_cmp old.pieces_in.entries q))
+pub piece_changed : (change : List ℕ → List ℕ) (old : Index) (owned : BTreeMap ℕ (BTreeSet ℕ)) (pieces : BTreeMap ℕ Versions) (r : PieceRecord)
+    → ((q : ℕ) → ids_among nat_cmp owned.entries q ≡ cond (is_eq (nat_cmp r.version q)) (change (ids_among nat_cmp old.pieces_in.entries r.version)) (ids_among nat_cmp old.pieces_in.entries q))
     → ((t : ℕ) (k : List Value) (v : ℕ) → ids_under (versions_on pieces.entries t k) v ≡ cond ((r.cells.table == t) && (is_eq (key_order r.cells.key k) && (r.version == v))) (change (ids_under (versions_on old.pieces.entries t k) v)) (ids_under (versions_on old.pieces.entries t k) v))
     → (q : Sought) → ids_at (record old { pieces = pieces; pieces_in = owned }) q ≡ cond (is_sought q (records.Piece r)) (change (ids_at old q)) (ids_at old q)
 piece_changed change old owned pieces r by_version by_key (PieceAt table key version) = by_key table key version
-piece_changed change old owned pieces r by_version by_key (PiecesIn version) = by_version version ∙ changed_number change (ids_in nat_cmp old.pieces_in.entries) r.version version
+piece_changed change old owned pieces r by_version by_key (PiecesIn version) = by_version version ∙ changed_number change (ids_among nat_cmp old.pieces_in.entries) r.version version
 piece_changed change old owned pieces r by_version by_key _ = refl

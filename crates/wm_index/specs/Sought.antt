@@ -1,6 +1,7 @@
 -- What records are sought as, and the ids of those that are it.
 use Rattle.std.specs.Prelude.{ℕ, Bool, true, false, not, ◌&&◌, ◌==◌, nat_lt, nat_le, if◌then◌else◌, List, [], ◌∷◌, Option, Some, None, option_map, unwrap_or}
 use Rattle.std.specs.BTreeMap.{BTreeMap, is_at}
+use Rattle.std.specs.BTreeSet.{BTreeSet, insert_key}
 use Rattle.std.specs.Bool.{then_some}
 use Rattle.std.specs.List.{list_any}
 use Rattle.std.specs.Map.{lookup}
@@ -97,10 +98,9 @@ abbrev pub ids_with : (Record → Bool) → List Stored → List ℕ
 ids_with p [] = []
 ids_with p (s ∷ ss) = if p s.record then s.id ∷ ids_with p ss else ids_with p ss
 
--- an id among ascending ones
+-- an id among ascending ones, where it stands once
 abbrev pub placed : ℕ → List ℕ → List ℕ
-placed id [] = id ∷ []
-placed id (x ∷ xs) = if nat_lt x id then x ∷ placed id xs else id ∷ x ∷ xs
+placed id xs = insert_key nat_cmp xs id
 
 -- the ids without one
 abbrev pub without : ℕ → List ℕ → List ℕ
@@ -114,6 +114,14 @@ ids_found found = unwrap_or (option_map (λ v. v.items) found) []
 -- the ids under a key
 abbrev pub ids_in : {K : Type 0} → (K → K → Ordering) → List (K × Vec ℕ Global) → K → List ℕ
 ids_in cmp entries key = ids_found (lookup (is_at (cmp key)) entries)
+
+-- the ids of the set that a look-up found
+abbrev pub set_found : Option (BTreeSet ℕ) → List ℕ
+set_found found = unwrap_or (option_map (λ s. s.keys) found) []
+
+-- the ids of the set under a key
+abbrev pub ids_among : {K : Type 0} → (K → K → Ordering) → List (K × BTreeSet ℕ) → K → List ℕ
+ids_among cmp entries key = set_found (lookup (is_at (cmp key)) entries)
 
 -- by a workspace, and in it by a position, a number or a table
 abbrev pub pair_order : ℕ × ℕ → ℕ × ℕ → Ordering

@@ -7,25 +7,27 @@ ghost use Rattle.wm_index.specs.Sought.{head_of, placed, without};
 
 use wm_base::Memory;
 
-/// Puts an id among others that ascend.
+/// Puts an id among others that ascend, where it is not there already.
 pub fn add_id(ids: &mut Vec<u64>, id: u64) -> Result<(), Memory>
     requires { IsStrictlySortedBy nat_cmp ids.old.items }
     ensures { OnOk result (ids.new.items ≡ placed id ids.old.items) }
 {
-    let place = place_of(ids.as_slice(), id);
-    ids.insert(place, id)?;
+    if let Some(place) = place_for(ids.as_slice(), id) {
+        ids.insert(place, id)?;
+    }
     Ok(())
 }
 
-/// The place of an id among others that ascend: before the first that is not smaller.
-fn place_of(ids: &[u64], id: u64) -> usize
+/// The place of an id among others that ascend: before the first that is greater, or None where it is there already.
+fn place_for(ids: &[u64], id: u64) -> Option<usize>
     requires { IsStrictlySortedBy nat_cmp ids.now }
-    ensures within { result ≤ length ids.now }
-    ensures there { insert ids.now result id ≡ placed id ids.now }
+    ensures none { IfNone result (placed id ids.now ≡ ids.now) }
+    ensures within { IfSome result (λ place. place ≤ length ids.now) }
+    ensures there { IfSome result (λ place. insert ids.now place id ≡ placed id ids.now) }
 {
     match ids.binary_search(&id) {
-        Ok(place) => place,
-        Err(place) => place,
+        Ok(_) => None,
+        Err(place) => Some(place),
     }
 }
 

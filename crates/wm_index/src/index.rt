@@ -8,6 +8,7 @@ ghost use Rattle.wm_spec.specs.declared.record.Record.TheVariants as records;
 
 use crate::ids::{add_id, drop_id};
 use crate::keyed::{Ids, NumberIds, TableIds, add_in, add_on, add_to, drop_from, drop_in, drop_on};
+use crate::sets::{IdSets, add_among, drop_among};
 use crate::versioned::{PieceIds, add_piece_id, drop_piece_id};
 use std::alloc::Global;
 use std::collections::BTreeMap;
@@ -40,12 +41,12 @@ pub struct Index {
     pub pieces: PieceIds,
     pub touches: TableIds,
     pub marks: TableIds,
-    pub pieces_in: Ids<u64>,
-    pub owned: Ids<u32>,
+    pub pieces_in: IdSets<u64>,
+    pub owned: IdSets<u32>,
     pub marks_in: Ids<u32>,
     pub touched_at: Ids<(u32, u64)>,
     pub turns_at: Ids<(u32, u32)>,
-    pub hists_on: Ids<(u32, u16)>,
+    pub hists_on: IdSets<(u32, u16)>,
 }
 
 impl Index {
@@ -97,7 +98,7 @@ impl Index {
             Record::Row(row) => add_to(alloc, &mut self.rows, row.stamp, id),
             Record::Piece(piece) => self.add_piece(alloc, id, piece),
             Record::Touch(touch) => self.add_touch(alloc, id, touch),
-            Record::Lock(lock) => add_to(alloc, &mut self.owned, lock.space, id),
+            Record::Lock(lock) => add_among(alloc, &mut self.owned, lock.space, id),
             Record::Hist(hist) => self.add_hist(alloc, id, hist),
             Record::Mark(mark) => self.add_mark(alloc, id, mark),
             Record::Turn(turn) => self.add_turn(alloc, id, turn),
@@ -111,7 +112,7 @@ impl Index {
         ensures pieces { OnOk result (self.new.pieces.entries ≡ self.old.pieces.entries) }
     {
         add_id(&mut self.all_spaces, id)?;
-        add_to(alloc, &mut self.owned, space.number, id)?;
+        add_among(alloc, &mut self.owned, space.number, id)?;
         add_to(alloc, &mut self.spaces, space.number, id)?;
         if space.number == 0 {
             return Ok(());
@@ -126,7 +127,7 @@ impl Index {
         ensures ids { OnOk result (Adds self.old self.new id (records.Version version.now)) }
         ensures pieces { OnOk result (self.new.pieces.entries ≡ self.old.pieces.entries) }
     {
-        add_to(alloc, &mut self.owned, version.space, id)?;
+        add_among(alloc, &mut self.owned, version.space, id)?;
         add_to(alloc, &mut self.versions, version.number, id)?;
         add_in(
             alloc,
@@ -144,7 +145,7 @@ impl Index {
         ensures ids { OnOk result (Adds self.old self.new id (records.Savepoint savepoint.now)) }
         ensures pieces { OnOk result (self.new.pieces.entries ≡ self.old.pieces.entries) }
     {
-        add_to(alloc, &mut self.owned, savepoint.space, id)?;
+        add_among(alloc, &mut self.owned, savepoint.space, id)?;
         add_to(alloc, &mut self.savepoints_of, savepoint.space, id)?;
         add_to(alloc, &mut self.savepoints, savepoint.making, id)?;
         add_to(alloc, &mut self.kept_as, savepoint.version, id)?;
@@ -161,7 +162,7 @@ impl Index {
         ensures ids { OnOk result (Adds self.old self.new id (records.Piece piece.now)) }
         ensures pieces { OnOk result (Gains self.old.pieces.entries self.new.pieces.entries id (records.Piece piece.now)) }
     {
-        add_to(alloc, &mut self.pieces_in, piece.version, id)?;
+        add_among(alloc, &mut self.pieces_in, piece.version, id)?;
         add_piece_id(alloc, &mut self.pieces, id, piece)
     }
 
@@ -171,7 +172,7 @@ impl Index {
         ensures ids { OnOk result (Adds self.old self.new id (records.Touch touch.now)) }
         ensures pieces { OnOk result (self.new.pieces.entries ≡ self.old.pieces.entries) }
     {
-        add_to(alloc, &mut self.owned, touch.space, id)?;
+        add_among(alloc, &mut self.owned, touch.space, id)?;
         let place = (touch.space, touch.position);
         add_to(alloc, &mut self.touched_at, place, id)?;
         let cells = &touch.cells;
@@ -184,7 +185,7 @@ impl Index {
         ensures ids { OnOk result (Adds self.old self.new id (records.Mark mark.now)) }
         ensures pieces { OnOk result (self.new.pieces.entries ≡ self.old.pieces.entries) }
     {
-        add_to(alloc, &mut self.owned, mark.space, id)?;
+        add_among(alloc, &mut self.owned, mark.space, id)?;
         add_to(alloc, &mut self.marks_in, mark.space, id)?;
         let cells = &mark.cells;
         add_on(alloc, &mut self.marks, cells.table, &cells.key, id)
@@ -196,7 +197,7 @@ impl Index {
         ensures ids { OnOk result (Adds self.old self.new id (records.Turn turn.now)) }
         ensures pieces { OnOk result (self.new.pieces.entries ≡ self.old.pieces.entries) }
     {
-        add_to(alloc, &mut self.owned, turn.space, id)?;
+        add_among(alloc, &mut self.owned, turn.space, id)?;
         let number = (turn.space, turn.rebase);
         add_to(alloc, &mut self.turns_at, number, id)
     }
@@ -207,9 +208,9 @@ impl Index {
         ensures ids { OnOk result (Adds self.old self.new id (records.Hist hist.now)) }
         ensures pieces { OnOk result (self.new.pieces.entries ≡ self.old.pieces.entries) }
     {
-        add_to(alloc, &mut self.owned, hist.space, id)?;
+        add_among(alloc, &mut self.owned, hist.space, id)?;
         let log = (hist.space, hist.cells.table);
-        add_to(alloc, &mut self.hists_on, log, id)
+        add_among(alloc, &mut self.hists_on, log, id)
     }
 
     /// Drops the id of a record.
@@ -234,7 +235,7 @@ impl Index {
             Record::Row(row) => drop_from(&mut self.rows, row.stamp, id),
             Record::Piece(piece) => self.drop_piece(alloc, id, piece),
             Record::Touch(touch) => self.drop_touch(alloc, id, touch),
-            Record::Lock(lock) => drop_from(&mut self.owned, lock.space, id),
+            Record::Lock(lock) => drop_among(&mut self.owned, lock.space, id),
             Record::Hist(hist) => self.drop_hist(id, hist),
             Record::Mark(mark) => self.drop_mark(alloc, id, mark),
             Record::Turn(turn) => self.drop_turn(id, turn),
@@ -248,7 +249,7 @@ impl Index {
         ensures pieces { OnOk result (self.new.pieces.entries ≡ self.old.pieces.entries) }
     {
         drop_id(&mut self.all_spaces, id);
-        drop_from(&mut self.owned, space.number, id)?;
+        drop_among(&mut self.owned, space.number, id)?;
         drop_from(&mut self.spaces, space.number, id)?;
         if space.number == 0 {
             return Ok(());
@@ -263,7 +264,7 @@ impl Index {
         ensures ids { OnOk result (Drops self.old self.new id (records.Version version.now)) }
         ensures pieces { OnOk result (self.new.pieces.entries ≡ self.old.pieces.entries) }
     {
-        drop_from(&mut self.owned, version.space, id)?;
+        drop_among(&mut self.owned, version.space, id)?;
         drop_from(&mut self.versions, version.number, id)?;
         drop_in(&mut self.versions_in, version.space, version.number, id)?;
         drop_from(&mut self.versions_under, version.parent, id)
@@ -275,7 +276,7 @@ impl Index {
         ensures ids { OnOk result (Drops self.old self.new id (records.Savepoint savepoint.now)) }
         ensures pieces { OnOk result (self.new.pieces.entries ≡ self.old.pieces.entries) }
     {
-        drop_from(&mut self.owned, savepoint.space, id)?;
+        drop_among(&mut self.owned, savepoint.space, id)?;
         drop_from(&mut self.savepoints_of, savepoint.space, id)?;
         drop_from(&mut self.savepoints, savepoint.making, id)?;
         drop_from(&mut self.kept_as, savepoint.version, id)?;
@@ -292,7 +293,7 @@ impl Index {
         ensures ids { OnOk result (Drops self.old self.new id (records.Piece piece.now)) }
         ensures pieces { OnOk result (Loses self.old.pieces.entries self.new.pieces.entries id (records.Piece piece.now)) }
     {
-        drop_from(&mut self.pieces_in, piece.version, id)?;
+        drop_among(&mut self.pieces_in, piece.version, id)?;
         drop_piece_id(alloc, &mut self.pieces, id, piece)
     }
 
@@ -302,7 +303,7 @@ impl Index {
         ensures ids { OnOk result (Drops self.old self.new id (records.Touch touch.now)) }
         ensures pieces { OnOk result (self.new.pieces.entries ≡ self.old.pieces.entries) }
     {
-        drop_from(&mut self.owned, touch.space, id)?;
+        drop_among(&mut self.owned, touch.space, id)?;
         let place = (touch.space, touch.position);
         drop_from(&mut self.touched_at, place, id)?;
         let cells = &touch.cells;
@@ -315,7 +316,7 @@ impl Index {
         ensures ids { OnOk result (Drops self.old self.new id (records.Mark mark.now)) }
         ensures pieces { OnOk result (self.new.pieces.entries ≡ self.old.pieces.entries) }
     {
-        drop_from(&mut self.owned, mark.space, id)?;
+        drop_among(&mut self.owned, mark.space, id)?;
         drop_from(&mut self.marks_in, mark.space, id)?;
         let cells = &mark.cells;
         drop_on(alloc, &mut self.marks, cells.table, &cells.key, id)
@@ -327,7 +328,7 @@ impl Index {
         ensures ids { OnOk result (Drops self.old self.new id (records.Turn turn.now)) }
         ensures pieces { OnOk result (self.new.pieces.entries ≡ self.old.pieces.entries) }
     {
-        drop_from(&mut self.owned, turn.space, id)?;
+        drop_among(&mut self.owned, turn.space, id)?;
         let number = (turn.space, turn.rebase);
         drop_from(&mut self.turns_at, number, id)
     }
@@ -338,8 +339,8 @@ impl Index {
         ensures ids { OnOk result (Drops self.old self.new id (records.Hist hist.now)) }
         ensures pieces { OnOk result (self.new.pieces.entries ≡ self.old.pieces.entries) }
     {
-        drop_from(&mut self.owned, hist.space, id)?;
+        drop_among(&mut self.owned, hist.space, id)?;
         let log = (hist.space, hist.cells.table);
-        drop_from(&mut self.hists_on, log, id)
+        drop_among(&mut self.hists_on, log, id)
     }
 }

@@ -9,6 +9,7 @@ pub mod keyed;
 pub mod kinds;
 pub mod records;
 pub mod savepoints;
+pub mod sets;
 pub mod spaces;
 pub mod tables;
 pub mod versioned;

@@ -15,12 +15,18 @@ use wm_image::Image;
 use wm_spec::record::{Changes, Record};
 
 /// Puts the id of a record behind others, and behind it those of the pieces of a version.
-fn push_with_pieces(image: &Image, ids: &mut Vec<u64>, id: u64) -> Result<(), Memory>
+fn push_with_pieces(
+    alloc: Global,
+    image: &Image,
+    ids: &mut Vec<u64>,
+    id: u64,
+) -> Result<(), Memory>
     ensures { OnOk result (ids.new.items ≡ ids.old.items ++ with_pieces image.now id) }
 {
     ids.push(id)?;
     if let Some(Record::Version(version)) = image.record(id) {
-        ids.extend_from_slice(image.pieces_in(version.number))?;
+        let pieces = image.pieces_in(alloc, version.number)?;
+        ids.extend_from_slice(pieces.as_slice())?;
     }
     Ok(())
 }
@@ -31,7 +37,7 @@ fn all_with_pieces(alloc: Global, image: &Image, ids: &[u64]) -> Result<Vec<u64>
 {
     let mut all = Vec::new(alloc);
     for id in ids {
-        push_with_pieces(image, &mut all, *id)?;
+        push_with_pieces(alloc, image, &mut all, *id)?;
     }
     Ok(all)
 }
@@ -52,7 +58,8 @@ pub fn remove(
     let counters_id = image.id_of_counters();
     let counters = image.counters();
     let counted = moved(counters, moment, work);
-    let dropped = all_with_pieces(alloc, image, image.records_of(space))?;
+    let own = image.records_of(alloc, space)?;
+    let dropped = all_with_pieces(alloc, image, own.as_slice())?;
     let mut changes = Changes::new(alloc);
     changes.push(put(counters_id, Record::Counters(counted)))?;
     drop_all(&mut changes, dropped.as_slice())?;

@@ -70,8 +70,8 @@ fn dropped_back(alloc: Global, image: &Image, savepoint: &Savepoint) -> Result<V
     requires { Ascend image.now }
     ensures { IfOk result (λ dropped. dropped.items ≡ ids_with (λ r. not (keeps_back savepoint.now r)) image.now) }
 {
-    let ids = image.records_of(savepoint.space);
-    let dropped = going_back(alloc, image, savepoint, ids)?;
+    let own = image.records_of(alloc, savepoint.space)?;
+    let dropped = going_back(alloc, image, savepoint, own.as_slice())?;
     Ok(dropped)
 }
 

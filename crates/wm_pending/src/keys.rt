@@ -50,7 +50,8 @@ pub fn own_keys(alloc: Global, image: &Image, space: &Space) -> Result<TableKeys
     let mut keys = BTreeSet::new(alloc);
     let mut number = image.latest(space.number);
     while let Some(version) = version_above(image, space.base_version, number) {
-        add_keys(alloc, image, &mut keys, image.pieces_in(number))?;
+        let pieces = image.pieces_in(alloc, number)?;
+        add_keys(alloc, image, &mut keys, pieces.as_slice())?;
         number = version.parent;
     }
     Ok(keys)

@@ -1,4 +1,4 @@
-use Rattle.wm_index.specs.Sought.{TheCounters, Tables, RowAt, OwnedBy}
+use Rattle.wm_index.specs.Sought.{TheCounters, Tables, RowAt}
 use Rattle.wm_index.proofs.index.Index.add_record.Goals as goal
 
 pub add_id-requires : goal.add_id-requires
@@ -9,6 +9,3 @@ add_id-requires-in-Table c = c.requires.ascend Tables
 
 pub add_to-requires : goal.add_to-requires
 add_to-requires c = c.requires.ascend (RowAt c.in-Row.row.stamp)
-
-pub add_to-requires-in-Lock : goal.add_to-requires-in-Lock
-add_to-requires-in-Lock c = c.requires.ascend (OwnedBy c.in-Lock.lock.space)

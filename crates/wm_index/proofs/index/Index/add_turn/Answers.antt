@@ -1,13 +1,10 @@
 use Rattle.std.proofs.lemmas.Result.{on_ok_weaker}
 use Rattle.wm_index.proofs.Pairs.{turn_changed}
-use Rattle.wm_index.specs.Sought.{OwnedBy, TurnAt, placed}
+use Rattle.wm_index.specs.Sought.{TurnAt, placed}
 use Rattle.wm_index.proofs.index.Index.add_turn.Goals as goal
 
 pub add_to-requires : goal.add_to-requires
-add_to-requires c = c.requires (OwnedBy c.args.turn.now.space)
-
-pub add_to-requires-2 : goal.add_to-requires-2
-add_to-requires-2 c = c.requires (TurnAt c.args.turn.now.space c.args.turn.now.rebase)
+add_to-requires c = c.requires (TurnAt c.args.turn.now.space c.args.turn.now.rebase)
 
 pub returns-clause-ids : goal.returns-clause-ids
-returns-clause-ids c = on_ok_weaker c.add_to-2.result (turn_changed (placed c.args.id) c.args.self.now c.add_to.new.map c.add_to-2.new.map c.args.turn.now c.in_ok-add_to.ensures) c.add_to-2.ensures
+returns-clause-ids c = on_ok_weaker c.add_to.result (turn_changed (placed c.args.id) c.args.self.now c.add_among.new.map c.add_to.new.map c.args.turn.now c.in_ok-add_among.ensures) c.add_to.ensures

@@ -1,4 +1,4 @@
-use Rattle.wm_index.specs.Sought.{TheCounters, Tables, RowAt, OwnedBy}
+use Rattle.wm_index.specs.Sought.{TheCounters, Tables, RowAt}
 use Rattle.wm_index.proofs.index.Index.drop_record.Goals as goal
 
 pub drop_id-requires : goal.drop_id-requires
@@ -9,6 +9,3 @@ drop_id-requires-in-Table c = c.requires.ascend Tables
 
 pub drop_from-requires : goal.drop_from-requires
 drop_from-requires c = c.requires.ascend (RowAt c.in-Row.row.stamp)
-
-pub drop_from-requires-in-Lock : goal.drop_from-requires-in-Lock
-drop_from-requires-in-Lock c = c.requires.ascend (OwnedBy c.in-Lock.lock.space)

@@ -1,13 +1,10 @@
 use Rattle.std.proofs.lemmas.Result.{on_ok_weaker}
 use Rattle.wm_index.proofs.Pairs.{touch_changed}
-use Rattle.wm_index.specs.Sought.{OwnedBy, TouchAt, TouchesAt, without}
+use Rattle.wm_index.specs.Sought.{TouchAt, TouchesAt, without}
 use Rattle.wm_index.proofs.index.Index.drop_touch.Goals as goal
 
 pub drop_from-requires : goal.drop_from-requires
-drop_from-requires c = c.requires (OwnedBy c.args.touch.now.space)
-
-pub drop_from-requires-2 : goal.drop_from-requires-2
-drop_from-requires-2 c = c.requires (TouchAt c.args.touch.now.space c.args.touch.now.position)
+drop_from-requires c = c.requires (TouchAt c.args.touch.now.space c.args.touch.now.position)
 
 pub drop_on-requires : goal.drop_on-requires
 drop_on-requires c = c.requires (TouchesAt c.args.touch.now.cells.table c.args.touch.now.cells.key)
@@ -15,5 +12,5 @@ drop_on-requires c = c.requires (TouchesAt c.args.touch.now.cells.table c.args.t
 pub returns-clause-ids : goal.returns-clause-ids
 returns-clause-ids c =
     on_ok_weaker c.drop_on.result
-    (touch_changed (without c.args.id) c.args.self.now c.drop_from.new.map c.drop_from-2.new.map c.drop_on.new.tables c.args.touch.now c.in_ok-drop_from.ensures c.in_ok-drop_from-2.ensures)
+    (touch_changed (without c.args.id) c.args.self.now c.drop_among.new.map c.drop_from.new.map c.drop_on.new.tables c.args.touch.now c.in_ok-drop_among.ensures c.in_ok-drop_from.ensures)
     c.drop_on.ensures

@@ -1,0 +1,76 @@
+//! Ids in sets under keys: for what may be many, of which any may go.
+
+ghost use Rattle.std.specs.Prelude.{◌≡◌, ℕ, if◌then◌else◌, IfOk, OnOk};
+ghost use Rattle.std.specs.Ordering.{is_eq};
+ghost use Rattle.wm_index.specs.Sought.{ids_among, placed, without};
+
+use std::alloc::Global;
+use std::collections::{BTreeMap, BTreeSet};
+use wm_base::Memory;
+
+pub type IdSets<K> = BTreeMap<K, BTreeSet<u64>>;
+
+/// Puts an id in a set.
+fn put_in(ids: &mut BTreeSet<u64>, id: u64) -> Result<(), Memory>
+    ensures { OnOk result (ids.new.keys ≡ placed id ids.old.keys) }
+{
+    ids.insert(id)?;
+    Ok(())
+}
+
+/// Takes an id out of a set, where it is there.
+fn take_from(ids: &mut BTreeSet<u64>, id: u64)
+    ensures { ids.new.keys ≡ without id ids.old.keys }
+{
+    ids.remove(&id);
+}
+
+/// Puts an id in the set under a key.
+pub fn add_among<K: Ord + Drop>(
+    alloc: Global,
+    map: &mut IdSets<K>,
+    key: K,
+    id: u64,
+) -> Result<(), Memory>
+    ensures { OnOk result ((q : K) → ids_among K.cmp map.new.entries q ≡ (if is_eq (K.cmp key q) then placed id (ids_among K.cmp map.old.entries key) else ids_among K.cmp map.old.entries q)) }
+{
+    let mut ids = map.remove(&key).unwrap_or(BTreeSet::new(alloc));
+    put_in(&mut ids, id)?;
+    map.insert(key, ids)?;
+    Ok(())
+}
+
+/// Takes an id out of the set under a key. A key that has none left goes.
+pub fn drop_among<K: Ord + Drop>(map: &mut IdSets<K>, key: K, id: u64) -> Result<(), Memory>
+    ensures { OnOk result ((q : K) → ids_among K.cmp map.new.entries q ≡ (if is_eq (K.cmp key q) then without id (ids_among K.cmp map.old.entries key) else ids_among K.cmp map.old.entries q)) }
+{
+    let Some(mut ids) = map.remove(&key) else {
+        return Ok(());
+    };
+    take_from(&mut ids, id);
+    if !ids.is_empty() {
+        map.insert(key, ids)?;
+    }
+    Ok(())
+}
+
+/// The ids of a set, in order.
+fn ids_in_set(alloc: Global, set: &BTreeSet<u64>) -> Result<Vec<u64>, Memory>
+    ensures { IfOk result (λ ids. ids.items ≡ set.now.keys) }
+{
+    let mut ids = Vec::new(alloc);
+    for id in set.iter() {
+        ids.push(*id)?;
+    }
+    Ok(ids)
+}
+
+/// The ids of the set under a key, in order.
+pub fn ids_under<K: Ord>(alloc: Global, map: &IdSets<K>, key: &K) -> Result<Vec<u64>, Memory>
+    ensures { IfOk result (λ ids. ids.items ≡ ids_among K.cmp map.now.entries key.now) }
+{
+    match map.get(key) {
+        Some(set) => ids_in_set(alloc, set),
+        None => Ok(Vec::new(alloc)),
+    }
+}
