@@ -1,5 +1,6 @@
 -- Where a condition fixes the key, what it chooses of all rows is what it chooses of those of the key.
-use Rattle.std.proofs.Common.{◌≡◌, ℕ, ◌||◌, Bool, true, false, cond, List, [], ◌∷◌, ◌++◌, map, Option, Some, None, Result, Ok, Err, IfOk, Vec, Global, refl, sym, ap, subst, ◌∙◌}
+use Rattle.std.proofs.Common.{◌≡◌, ℕ, ◌||◌, Bool, true, false, cond, List, [], ◌∷◌, ◌++◌, map, Option, Some, None, Result, Ok, Err, IfOk, refl, sym, ap, subst, ◌∙◌}
+use Rattle.std.specs.Prelude.{IfSome}
 use Rattle.std.proofs.lemmas.List.{append-nil}
 use Rattle.std.proofs.lemmas.List.Elements.{filter-append, filter_map-append}
 use Rattle.std.specs.List.{filter, filter_map, list_all}
@@ -9,7 +10,6 @@ use Rattle.wm_base.specs.Key.{key_order}
 use Rattle.wm_base.specs.Orders.{key_order-itself}
 use Rattle.wm_base.specs.Period.{Span}
 use Rattle.wm_base.specs.Trees.{Cond}
-use Rattle.wm_base.specs.declared.columns.Column.{Column}
 use Rattle.wm_base.specs.declared.memory.Memory.{Memory}
 use Rattle.wm_base.specs.declared.row.Row.{Row}
 use Rattle.wm_base.specs.declared.value.Value.{Value}
@@ -149,20 +149,23 @@ rows_under_key p version t within key rows rules there is =
 -- ---- as the code has them
 
 -- the rows of the key fit the columns of the table
-pub key_rows_fit : (rs : List Stored) (version : ℕ) (t : Table) (within : Span) (key : List Value) (columns : List Column) (rows shown : List Row) → keep_rules (parts_of rs) ≡ true
-    → table_of (parts_of rs).tables t.number ≡ Some t → columns ≡ own_columns t → rows ≡ shown → IsKeyShowing (parts_of rs) version t.number t.valid within key shown → list_all (fits columns) rows ≡ true
-key_rows_fit rs version t within key columns rows shown rules there own same is =
-    ap (λ (cs : List Column). list_all (fits cs) rows) own ∙ ap (list_all (fits (own_columns t))) (same ∙ is.shown)
-    ∙ key_showing_all (fits (own_columns t)) (parts_of rs) version t within key is.stretches rules there is.are (λ row is. shown_fits t.name t within key row is)
+pub key_fit : (r : Result (List Row) Memory) (rs : List Stored) (version : ℕ) (t : Table) (within : Span) (key : List Value) → keep_rules (parts_of rs) ≡ true → table_of (parts_of rs).tables t.number ≡ Some t
+    → IfOk r (λ rows. IsKeyShowing (parts_of rs) version t.number t.valid within key rows) → IfOk r (λ rows. list_all (fits (own_columns t)) rows ≡ true)
+key_fit (Ok rows) rs version t within key rules there is =
+    ap (list_all (fits (own_columns t))) is.shown ∙ key_showing_all (fits (own_columns t)) (parts_of rs) version t within key is.stretches rules there is.are (λ row is. shown_fits t.name t within key row is)
+key_fit (Err e) rs version t within key rules there is = tt
+
+key_fixed : (t : Table) (condition : Option Cond) (asked : Option (List Value)) (key : List Value) → asked ≡ Some key → IfSome asked (FixesKey t condition) → FixesKey t condition key
+key_fixed t condition None key is fixed = absurd (cc)
+key_fixed t condition (Some other) key is fixed = let same : other ≡ key = cc in subst (FixesKey t condition) same fixed
 
 -- those that are chosen of them are those that are chosen of all
-pub are_chosen_under : (r : Result (Vec Row Global) Memory) (rs : List Stored) (version : ℕ) (t : Table) (within : Span) (condition : Option Cond) (key : List Value) (columns : List Column) (rows shown : List Row)
-    → keep_rules (parts_of rs) ≡ true → table_of (parts_of rs).tables t.number ≡ Some t → FixesKey t condition key → columns ≡ own_columns t → rows ≡ shown
-    → IsKeyShowing (parts_of rs) version t.number t.valid within key shown → IfOk r (λ kept. (t : Table) → columns ≡ own_columns t → kept.items ≡ chosen t condition rows)
-    → IfOk r (λ kept. AreChosen rs version t within condition kept.items)
-are_chosen_under (Ok kept) rs version t within condition key columns rows shown rules there fixed own same is so = record {
+pub key_are : (r : Result (List Row) Memory) (rs : List Stored) (version : ℕ) (t : Table) (within : Span) (asked : Option (List Value)) (key : List Value) → asked ≡ Some key
+    → keep_rules (parts_of rs) ≡ true → table_of (parts_of rs).tables t.number ≡ Some t → IfOk r (λ rows. IsKeyShowing (parts_of rs) version t.number t.valid within key rows)
+    → IfOk r (λ rows. (condition : Option Cond) → IfSome asked (FixesKey t condition) → AreChosen rs version t within condition (chosen t condition rows))
+key_are (Ok rows) rs version t within asked key some rules there is = λ condition fixed. record {
   all = rows_with (parts_of rs) version t.number t.valid within key;
   listed = is_showing (parts_of rs) version t.number t.valid within key;
-  are = so t own ∙ ap (chosen t condition) same ∙ chosen_under_key (parts_of rs) version t within condition key shown rules there fixed is;
+  are = chosen_under_key (parts_of rs) version t within condition key rows rules there (key_fixed t condition asked key some fixed) is;
 }
-are_chosen_under (Err e) rs version t within condition key columns rows shown rules there fixed own same is so = tt
+key_are (Err e) rs version t within asked key some rules there is = tt

@@ -1,5 +1,5 @@
 //! The rows of a table that a condition chooses.
-ghost use Rattle.std.specs.Prelude.{◌≡◌, List, Option, true, None, Some, IfOk};
+ghost use Rattle.std.specs.Prelude.{◌≡◌, Option, true, Some, IfOk, IfSome};
 ghost use Rattle.std.specs.List.{list_all};
 ghost use Rattle.wm_base.specs.Trees.{Cond as CondTree};
 ghost use Rattle.wm_base.specs.declared.row.Row.{Row as RowOf};
@@ -16,28 +16,14 @@ ghost use Rattle.wm_spec.specs.declared.record.table.Table.{Table as TableOf};
 
 use crate::keyed::key_asked;
 use std::alloc::Global;
-use std::mem::ManuallyDrop;
-use wm_base::tree::cond::{Cmp, Cond};
-use wm_base::tree::constant::Const;
-use wm_base::tree::operand::Operand;
-use wm_base::{Columns, Key, Memory, Period, Row, Truth};
+use wm_base::tree::cond::Cond;
+use wm_base::{Columns, Key, Memory, Period, Row, RowList, Truth};
 use wm_dml::chosen;
 use wm_expr::truth;
 use wm_image::Image;
 use wm_rowtest::{Judge, RowTest};
 use wm_spec::record::Table;
 use wm_typing::columns_of_table;
-
-/// What stands for a WHERE that is not there: 1 = 1.
-pub fn always() -> Cond
-    ensures { cond_view result ≡ where_of None }
-{
-    Cond::Compare {
-        left: Operand::Const(Const::Num(1)),
-        cmp: Cmp::Eq,
-        right: Operand::Const(Const::Num(1)),
-    }
-}
 
 /// The rows on which the condition is true, which the closure judges.
 fn chosen_by<F: Fn(&Row) -> Truth + Judge + Drop>(
@@ -90,56 +76,29 @@ fn chosen_of(
 {
     match filter {
         Some(cond) => chosen_with(alloc, cond, columns, rows),
-        None => {
-            // It owns no memory.
-            let always = ManuallyDrop::new(always());
-            chosen_with(alloc, &always, columns, rows)
-        }
+        None => Ok(rows),
     }
 }
 
-/// The rows of a table on which the condition is true, found among all that a version shows.
-fn chosen_of_all(
+/// The rows of a table that a version shows in a period. Where a key is given, only its rows are looked at.
+fn rows_read(
     alloc: Global,
     image: &Image,
     version: u64,
     table: &Table,
     within: &Period,
-    columns: &Columns,
-    filter: &Option<Cond>,
-) -> Result<Vec<Row>, Memory>
+    key: Option<Key>,
+) -> Result<RowList, Memory>
     requires rules { keep_rules (parts_of image.now) ≡ true }
     requires there { table_of (parts_of image.now).tables table.now.number ≡ Some table.now }
-    requires own { columns.now ≡ own_columns table.now }
-    requires typed { typed (where_of (filter_view filter.now)) columns.now ≡ true }
-    ensures { IfOk result (λ rows. AreChosen image.now version table.now within.now (filter_view filter.now) rows.items) }
+    ensures fitting { IfOk result (λ rows. list_all (fits (own_columns table.now)) rows ≡ true) }
+    // A condition that is true on no rows but those of the key chooses of all rows what it chooses of these.
+    ensures chosen { IfOk result (λ rows. (condition : Option CondTree) → IfSome key (FixesKey table.now condition) → AreChosen image.now version table.now within.now condition (chosen table.now condition rows)) }
 {
-    let rows = image.showing(alloc, version, table, within)?.into_vec();
-    chosen_of(alloc, columns, filter, rows)
-}
-
-/// The same of a condition that is true on no rows but those of one key: the others are not looked at.
-fn chosen_under(
-    alloc: Global,
-    image: &Image,
-    version: u64,
-    table: &Table,
-    within: &Period,
-    columns: &Columns,
-    filter: &Option<Cond>,
-    key: &Key,
-) -> Result<Vec<Row>, Memory>
-    requires rules { keep_rules (parts_of image.now) ≡ true }
-    requires there { table_of (parts_of image.now).tables table.now.number ≡ Some table.now }
-    requires own { columns.now ≡ own_columns table.now }
-    requires typed { typed (where_of (filter_view filter.now)) columns.now ≡ true }
-    requires fixed { FixesKey table.now (filter_view filter.now) key.now }
-    ensures { IfOk result (λ rows. AreChosen image.now version table.now within.now (filter_view filter.now) rows.items) }
-{
-    let rows = image
-        .showing_of_key(alloc, version, table, within, key)?
-        .into_vec();
-    chosen_of(alloc, columns, filter, rows)
+    match key {
+        Some(key) => image.showing_of_key(alloc, version, table, within, &key),
+        None => image.showing(alloc, version, table, within),
+    }
 }
 
 /// The rows of a table on which the condition is true, where there is one, of those that a version shows in a period.
@@ -157,8 +116,9 @@ pub fn chosen_rows(
     ensures { IfOk result (λ rows. AreChosen image.now version table.now within.now (filter_view filter.now) rows.items) }
 {
     let columns = columns_of_table(alloc, &table.name, table)?;
-    match key_asked(alloc, &columns, table, filter)? {
-        Some(key) => chosen_under(alloc, image, version, table, within, &columns, filter, &key),
-        None => chosen_of_all(alloc, image, version, table, within, &columns, filter),
-    }
+    let key = key_asked(alloc, &columns, table, filter)?;
+    let rows = rows_read(alloc, image, version, table, within, key)?;
+    let kept = chosen_of(alloc, &columns, filter, rows.into_vec());
+    drop(columns);
+    kept
 }

@@ -1,7 +1,7 @@
-use Rattle.std.proofs.Common.{◌≡◌, sym, ap, ◌∙◌}
+use Rattle.std.proofs.Common.{sym, ap}
 use Rattle.wm_base.specs.Views.{cond_view, filter_view}
 use Rattle.wm_select.specs.Query.{where_of}
-use Rattle.wm_chosen.proofs.ChosenRows.{kept_so}
+use Rattle.wm_chosen.proofs.ChosenRows.{kept_all, kept_so}
 use Rattle.wm_chosen.proofs.choosing.chosen_of.Goals as goal
 
 pub returns-in-Some : goal.returns-in-Some
@@ -9,7 +9,4 @@ returns-in-Some c =
     kept_so c.chosen_with.result c.args.columns.now (cond_view c.in-Some.cond) (filter_view c.args.filter.now) c.args.rows.items (sym (ap (λ f. where_of (filter_view f)) c.in-Some.is)) c.chosen_with.ensures
 
 pub returns-in-None : goal.returns-in-None
-returns-in-None c =
-    let same : c.deref.result.now ≡ c.always.result = cc in
-    kept_so c.chosen_with-in-None.result c.args.columns.now (cond_view c.deref.result.now) (filter_view c.args.filter.now) c.args.rows.items (ap cond_view same ∙ c.always.ensures ∙ sym (ap (λ f. where_of (filter_view f)) c.in-None.is))
-    c.chosen_with-in-None.ensures
+returns-in-None c = λ t own. kept_all t (filter_view c.args.filter.now) c.args.rows.items (ap (λ f. filter_view f) c.in-None.is)
