@@ -3,7 +3,7 @@ ghost use Rattle.std.specs.Prelude.{◌≡◌};
 ghost use Rattle.wm_view_rows.specs.Views.{table_sought, view_named};
 
 /// What is shown of a table: its rows, their conflicts, or its history.
-#[derive(Clone, Copy, Debug, PartialEq)]
+#[derive(Clone, Copy)]
 pub enum View {
     Rows,
     Conflicts,
