@@ -11,16 +11,27 @@ ghost use Rattle.wm_select.specs.Query.{answer_of, columns_of, projection_lasts,
 ghost use Rattle.wm_spec.specs.Conditions.{fits, truth_of, typed};
 
 use std::alloc::Global;
-use std::mem::ManuallyDrop;
-use wm_base::tree::cond::Cond;
+use wm_base::tree::cond::{Cmp, Cond};
+use wm_base::tree::constant::Const;
+use wm_base::tree::operand::Operand;
 use wm_base::tree::query::Query;
 use wm_base::{Columns, Listings, Memory, Row, RowList, Truth};
-use wm_chosen::choosing::always;
 use wm_expr::truth;
 use wm_plan::answer::Answer;
 use wm_plan::refuse::{most_rows, out_of_range};
 use wm_rowtest::{Judge, RowTest};
 use wm_select::SelectFault;
+
+/// What stands for a WHERE that is not there: 1 = 1.
+fn always() -> Cond
+    ensures { cond_view result ≡ where_of None }
+{
+    Cond::Compare {
+        left: Operand::Const(Const::Num(1)),
+        cmp: Cmp::Eq,
+        right: Operand::Const(Const::Num(1)),
+    }
+}
 
 /// The rows that a query answers over its sources, its condition being judged by the closure.
 fn rows_by<F: Fn(&Row) -> Truth + Judge + Drop>(
@@ -114,9 +125,10 @@ pub fn answer(
     match &query.filter {
         Some(cond) => answer_with(alloc, query, cond, columns, listings),
         None => {
-            // It owns no memory.
-            let always = ManuallyDrop::new(always());
-            answer_with(alloc, query, &always, columns, listings)
+            let always = always();
+            let given = answer_with(alloc, query, &always, columns, listings);
+            drop(always);
+            given
         }
     }
 }
