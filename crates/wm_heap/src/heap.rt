@@ -4,6 +4,7 @@ ghost use Rattle.wm_base.specs.declared.fault.StoreFault.TheVariants as faults;
 ghost use Rattle.wm_page.specs.Batch.{entries};
 ghost use Rattle.wm_page.specs.Cause.{StoreCause};
 ghost use Rattle.wm_heap.specs.Blobs.{AreBlobs, AreSmall, AllPut, slots_put, change_something};
+ghost use Rattle.wm_heap.specs.Content.{content, bytes_at};
 ghost use Rattle.wm_heap.specs.Places.{place_of, page_count, spots_of, spots_on, IsHeapOf};
 ghost use Rattle.wm_heap.specs.Plan.{root_of, IsPlan, IsChanged};
 ghost use Rattle.wm_heap.specs.Slots.{page_of, used};
@@ -11,11 +12,13 @@ ghost use Rattle.wm_heap.specs.Slots.{page_of, used};
 use crate::blob::{Blob, Blobs};
 use crate::draft::{Changed, page_batch};
 use crate::ids::Ids;
-use crate::places::Places;
+use crate::places::{Places, page_of as place_in};
 use crate::room::Room;
+use crate::slot::{Slots, slot_of};
 use crate::spot::{Spot, Spots};
+use crate::stored::stored_slots;
 use std::alloc::Global;
-use wm_base::{Memory, StoreFault};
+use wm_base::{Bytes, Memory, StoreFault};
 use wm_page::{PageBatch, Pages};
 
 /// Where the records of a store stand. Their bytes are read from its pages.
@@ -35,6 +38,36 @@ impl Heap {
         ensures { result ≡ page_count self.now }
     {
         self.ids.as_slice().len() as u64 + 2
+    }
+
+    /// The bytes of a record, None exactly where there is none of this id. Changed is answered where a page no longer
+    /// has what it had.
+    pub fn get<G: Pages>(
+        &self,
+        alloc: Global,
+        pages: &mut G,
+        id: u64,
+    ) -> Result<Option<Bytes>, StoreFault>
+        requires heap { G.tells → IsHeapOf self.now (G.held pages.old) (G.in_use pages.old) }
+        requires whole { G.tells → G.in_use pages.old ≤ G.in_file pages.old }
+        ensures bytes { G.tells → IfOk result (λ bytes. bytes ≡ bytes_at (content (G.held pages.old) (G.in_use pages.old)) id) }
+        ensures there { IfOk result (λ bytes. is_some bytes ≡ is_some (place_of self.now id)) }
+        ensures told { G.tells → G.held pages.new ≡ G.held pages.old }
+        ensures past { G.tells → G.past pages.new ≡ G.past pages.old }
+        ensures source { G.source pages.new ≡ G.source pages.old }
+        ensures in_use { G.in_use pages.new ≡ G.in_use pages.old }
+        ensures in_file { G.in_file pages.new ≡ G.in_file pages.old }
+        ensures cause { StoreCause (G.faults pages.old) (G.faults pages.new) result }
+        ensures sound { G.tells → IsErrOf result faults.Changed → ⊥ }
+    {
+        let Some(page) = place_in(&self.places, id) else {
+            return Ok(None);
+        };
+        let slots = stored_slots(alloc, pages, page)?;
+        match slots.find(alloc, id)? {
+            Some(bytes) => Ok(Some(bytes)),
+            None => Err(StoreFault::Changed),
+        }
     }
 
     /// Where each record stands, in order of page and slot.

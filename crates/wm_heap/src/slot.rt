@@ -1,6 +1,7 @@
 //! The slots of a page.
 ghost use Rattle.std.specs.Prelude.{◌≡◌, ◌+◌, ◌-◌, ◌<◌, ◌≤◌, false, IsTrue, ◌∷◌, [], ◌++◌, length, filter, not, ◌==◌, Some, OnOk, OnErr, IfOk};
 ghost use Rattle.wm_heap.specs.Slots.{used};
+ghost use Rattle.wm_heap.specs.Content.{bytes_at};
 
 use std::alloc::Global;
 use std::marker::Model;
@@ -68,6 +69,18 @@ impl Slots {
         let mut slots = self;
         slots.list.retain(|slot| slot.id != id);
         slots
+    }
+
+    /// The bytes under an id.
+    pub fn find(&self, alloc: Global, id: u64) -> Result<Option<Bytes>, Memory>
+        ensures { IfOk result (λ found. found ≡ bytes_at self.now id) }
+    {
+        for slot in self.as_slice() {
+            if slot.id == id {
+                return Ok(Some(copy_of(alloc, &slot.bytes)?));
+            }
+        }
+        Ok(None)
     }
 
     /// How many bytes of a page they leave.

@@ -1,6 +1,7 @@
 pub mod Committing
 pub mod Fitting
 pub mod Distinct
+pub mod Fetching
 pub mod Freshly
 pub mod Holding
 pub mod Mending

@@ -7,6 +7,7 @@ ghost use Rattle.wm_page.specs.Cause.{OpenCause, StoreCause};
 ghost use Rattle.wm_station.specs.History.{now};
 ghost use Rattle.wm_journal.specs.Disk.{page};
 ghost use Rattle.wm_heap.specs.Blobs.{AreBlobs, AreSmall, change_something};
+ghost use Rattle.wm_heap.specs.Content.{content, bytes_at};
 ghost use Rattle.wm_heap.specs.Places.{place_of, page_count, IsHeapOf};
 ghost use Rattle.wm_heap.specs.Plan.{IsPlan, IsChanged};
 ghost use Rattle.wm_store.specs.Answers.{FindsIn};
@@ -15,7 +16,7 @@ ghost use Rattle.wm_store.specs.Opened.{pages_opened};
 use crate::records::read_records;
 use crate::station_pages::{StationPages, whole_pages};
 use std::alloc::Global;
-use wm_base::{OpenFault, StoreFault};
+use wm_base::{Bytes, OpenFault, StoreFault};
 use wm_heap::{Blobs, Heap};
 use wm_page::PageBatch;
 use wm_spec::record::Records;
@@ -87,4 +88,36 @@ pub fn plan_over<P: Station>(
     };
     let batch = heap.plan(alloc, &mut pages, blobs)?;
     Ok(batch)
+}
+
+/// The bytes of a record of a store with so many pages, whose station is at rest.
+#[tactic(auto, using(crate::proofs::Pasts::past_injective))]
+pub fn get_over<P: Station>(
+    alloc: Global,
+    station: &mut P,
+    heap: &Heap,
+    count: u64,
+    id: u64,
+) -> Result<Option<Bytes>, StoreFault>
+    requires heap { P.tells → IsHeapOf heap.now (page (now (P.history station.old))) count }
+    requires size { P.tells → count * 4096 ≤ length (now (P.history station.old)) }
+    ensures bytes { P.tells → IfOk result (λ bytes. bytes ≡ bytes_at (content (page (now (P.history station.old))) count) id) }
+    ensures there { IfOk result (λ bytes. is_some bytes ≡ is_some (place_of heap.now id)) }
+    ensures told { P.tells → P.history station.new ≡ P.history station.old }
+    ensures cause { StoreCause (P.disk_faults station.old) (P.disk_faults station.new) result }
+    ensures sound { P.tells → IsErrOf result storing.Changed → ⊥ }
+    ensures say_quiet { P.say_faults station.new ≡ P.say_faults station.old }
+{
+    let whole = match whole_pages(station) {
+        Ok(whole) => whole,
+        Err(DiskFailed::Failed) => return Err(StoreFault::Disk),
+        Err(DiskFailed::Memory) => return Err(StoreFault::Memory),
+    };
+    let mut pages = StationPages {
+        station,
+        count,
+        whole,
+    };
+    let bytes = heap.get(alloc, &mut pages, id)?;
+    Ok(bytes)
 }

@@ -18,7 +18,7 @@ use wm_page::Pages;
 use wm_spec::record::{Record, Records, Stored};
 
 /// The record that the bytes spell.
-fn record_in(alloc: Global, bytes: &[u8]) -> Result<Option<Record>, Memory>
+pub fn record_in(alloc: Global, bytes: &[u8]) -> Result<Option<Record>, Memory>
     ensures { IfOk result (λ found. found ≡ record_of bytes.now) }
 {
     let found = decode(alloc, bytes)?;

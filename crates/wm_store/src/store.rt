@@ -3,7 +3,7 @@ ghost use Rattle.std.specs.Prelude.{◌≡◌, ℕ, ◌+◌, ◌*◌, ◌/◌, �
 ghost use Rattle.wm_base.specs.declared.fault.MakeFault.TheVariants as making;
 ghost use Rattle.wm_base.specs.declared.fault.OpenFault.TheVariants as opening;
 ghost use Rattle.wm_base.specs.declared.fault.StoreFault.TheVariants as storing;
-ghost use Rattle.wm_spec.specs.Records.{AreChanges, AfterBatch};
+ghost use Rattle.wm_spec.specs.Records.{AreChanges, AfterBatch, record_at};
 ghost use Rattle.wm_spec.specs.declared.record.stored.Stored.{Stored};
 ghost use Rattle.wm_page.specs.Cause.{MakeCause, OpenCause, StoreCause};
 ghost use Rattle.wm_station.specs.Cause.{Rises};
@@ -12,6 +12,7 @@ ghost use Rattle.wm_station.specs.Moments.{Holds, During, Ended};
 ghost use Rattle.wm_journal.specs.Disk.{is_made, count_of, page};
 ghost use Rattle.wm_journal.specs.Opening.{IsUntouched};
 ghost use Rattle.wm_journal.specs.Store.{Settles};
+ghost use Rattle.wm_heap.specs.Places.{place_of};
 ghost use Rattle.wm_store.specs.Answers.{SaysOf};
 ghost use Rattle.wm_store.specs.Fresh.{fresh_records};
 ghost use Rattle.wm_store.specs.Opened.{opened, Held, SaysAs, HoldsAs};
@@ -19,12 +20,13 @@ ghost use Rattle.wm_store.specs.Spelled.{FitPages};
 
 use crate::blobs::spell_changes;
 use crate::fresh::fresh_heap;
-use crate::over::{load_over, plan_over};
+use crate::over::{get_over, load_over, plan_over};
+use crate::records::record_in;
 use std::alloc::Global;
 use wm_base::{MakeFault, OpenFault, StoreFault};
 use wm_heap::Heap;
 use wm_journal::Journal;
-use wm_spec::record::{Batch, Records};
+use wm_spec::record::{Batch, Record, Records};
 use wm_station::Station;
 
 /// Where the records of a store stand. They are read from its station and changed there.
@@ -141,5 +143,39 @@ impl Store {
         }
         self.journal.commit(alloc, station, &pages)?;
         Ok(())
+    }
+
+    /// The record of an id, read from its page; None exactly where there is none of this id. The store knows where an id
+    /// stands and nothing of what the records say, so a row is asked for by its id and not by its stamp. Changed is
+    /// answered where the page no longer has what it had.
+    pub fn fetch<P: Station>(
+        &self,
+        alloc: Global,
+        station: &mut P,
+        id: u64,
+    ) -> Result<Option<Record>, StoreFault>
+        requires store { P.tells → IsStoreOf self.now (P.history station.old) }
+        ensures record { P.tells → IfOk result (λ found. (records : List Stored) → Held records (now (P.history station.old)) → found ≡ record_at records id) }
+
+        // Also where the station tells nothing: None is no answer for a record that was not read.
+        ensures there { IfOk result (λ found. is_some found ≡ is_some (place_of self.now.heap id)) }
+
+        // Reading changes nothing, so the store is still that of the station.
+        ensures told { P.tells → P.history station.new ≡ P.history station.old }
+
+        ensures later { P.disk_faults station.old ≤ P.disk_faults station.new }
+        ensures disk { IsErrOf result storing.Disk → Rises (P.disk_faults station.old) (P.disk_faults station.new) }
+        ensures cause { StoreCause (P.disk_faults station.old) (P.disk_faults station.new) result }
+        ensures not_changed { P.tells → IsErrOf result storing.Changed → ⊥ }
+        ensures say_quiet { P.say_faults station.new ≡ P.say_faults station.old }
+    {
+        let count = self.journal.count();
+        let Some(bytes) = get_over(alloc, station, &self.heap, count, id)? else {
+            return Ok(None);
+        };
+        match record_in(alloc, bytes.as_slice())? {
+            Some(record) => Ok(Some(record)),
+            None => Err(StoreFault::Changed),
+        }
     }
 }
