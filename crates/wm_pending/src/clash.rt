@@ -115,9 +115,16 @@ fn first_of_key(
     ensures none { IfOk result (λ found. IfNone found ((t : ℕ) → asked_clash (parts_of image.now) asked own.now t ≡ None)) }
 {
     let sides = sides_of(alloc, image, asked, own)?;
-    match Walk::over(&sides).next_contest() {
-        Some((contest, _)) => Ok(Some(contest)),
-        None => Ok(None),
+    let next = Walk::over(&sides).next_contest();
+    match next {
+        Some((contest, _)) => {
+            drop(sides);
+            Ok(Some(contest))
+        }
+        None => {
+            drop(sides);
+            Ok(None)
+        }
     }
 }
 

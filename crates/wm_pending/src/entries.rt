@@ -42,17 +42,24 @@ fn replayed(
 ) -> Result<NewEntry, Memory>
     ensures { IfOk result (λ entry. entry_of entry ≡ replayed_by (parts_of image.now) moment user.now (let g : Group = record { table = table; key = key.now } in g) (as_stretch piece.now)) }
 {
-    let row = values_of(alloc, image, piece)?;
-    Ok(NewEntry {
-        table,
-        key: key.copy(alloc)?,
-        period: piece.period,
-        row,
-        stamp: piece.stamp.number,
-        kind: piece.kind,
-        moment,
-        user: user.copy(alloc)?,
-    })
+    let user = user.copy(alloc)?;
+    let key = key.copy(alloc)?;
+    match values_of(alloc, image, piece) {
+        Ok(row) => Ok(NewEntry {
+            table,
+            key,
+            period: piece.period,
+            row,
+            stamp: piece.stamp.number,
+            kind: piece.kind,
+            moment,
+            user,
+        }),
+        Err(fault) => {
+            drop(key);
+            Err(fault)
+        }
+    }
 }
 
 /// Puts the pieces of a key behind others, as entries of the line of a moment and a user.
