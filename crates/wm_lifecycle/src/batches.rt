@@ -53,9 +53,7 @@ pub fn savepoint_changes(
 ) -> Result<Changes, Memory>
     ensures { IfOk result (λ changes. changes ≡ savepoint_batch counters_id counters space_id space id savepoint) }
 {
-    let mut changes = Changes::new(alloc);
-    changes.push(put(counters_id, Record::Counters(counters)))?;
-    changes.push(put(space_id, Record::Space(space)))?;
+    let mut changes = space_changes(alloc, counters_id, counters, space_id, space)?;
     changes.push(put(id, Record::Savepoint(savepoint)))?;
     Ok(changes)
 }

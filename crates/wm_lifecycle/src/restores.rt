@@ -113,10 +113,12 @@ pub fn restore(
         parent: savepoint.version,
     };
     let counted = versioned(counters, moment, work);
-    let new = restored_to(alloc, savepoint, old)?;
     let dropped = dropped_back(alloc, image, savepoint)?;
+    let new = restored_to(alloc, savepoint, old)?;
     let mut changes = space_changes(alloc, counters_id, counted, space_id, new)?;
-    drop_all(&mut changes, dropped.as_slice())?;
+    let said = drop_all(&mut changes, dropped.as_slice());
+    drop(dropped);
+    said?;
     changes.push(put(id, Record::Version(version)))?;
     Ok(changes)
 }
