@@ -56,10 +56,13 @@ fn marked(
     requires ids { id + length made.news.items < 2 ^ 64 }
     ensures { IfOk result (AreMarked image.now counters id made.dropped.items made.news.items) }
 {
+    let Made { dropped, news } = made;
     let mut changes = Changes::new(alloc);
     changes.push(put(image.id_of_counters(), Record::Counters(counters)))?;
-    drop_all(&mut changes, made.dropped.as_slice())?;
-    put_all(&mut changes, id, made.news)?;
+    let said = drop_all(&mut changes, dropped.as_slice());
+    drop(dropped);
+    said?;
+    put_all(&mut changes, id, news)?;
     Ok(changes)
 }
 
