@@ -142,33 +142,6 @@ fn draft_each(
     Ok(())
 }
 
-/// What the edits of a line at a moment make of the records.
-fn draft_all(
-    alloc: Global,
-    image: &mut Image,
-    moment: u64,
-    edits: Vec<Edit>,
-) -> Result<Changes, DraftFault>
-    requires sorted { Ascend image.old }
-    requires rules { keep_rules (parts_of image.old) ≡ true }
-    requires can { CanDraft image.old moment edits.items }
-    ensures drafts { IfOk result (Drafts image.old moment edits.items) }
-    ensures spends { IfOk result (λ changes. Spends moment image.old edits.items (applied changes image.old)) }
-    ensures rest { IfOk result (λ changes. applied changes image.new ≡ applied changes image.old) }
-    ensures one { length edits.items ≤ 1 → OnOk result (image.new ≡ image.old) }
-    ensures full { IfErr result (λ fault. fault ≡ DraftFault.Ids → HasGreatId image.new) }
-{
-    let mut front = Changes::new(alloc);
-    let mut last = Changes::new(alloc);
-    if let Err(fault) = draft_each(alloc, image, moment, &mut front, &mut last, edits) {
-        drop(front);
-        drop(last);
-        return Err(fault);
-    }
-    let changes = followed_by(alloc, front, last)?;
-    Ok(changes)
-}
-
 /// What the edits of a line at a moment make of the records: of each state that they stand for, what the edits make of it
 /// in their order. Where there are several the image goes on to what all but the last one leave; then it is good for one
 /// thing, which is to apply the batch, and that makes of it what it makes of the records as they were. Where memory runs
@@ -190,6 +163,13 @@ pub fn draft(
     ensures full { IfErr result (λ fault. fault ≡ DraftFault.Ids → HasGreatId image.new) }
 {
     image.law_of_order();
-    let changes = draft_all(alloc, image, moment, edits)?;
+    let mut front = Changes::new(alloc);
+    let mut last = Changes::new(alloc);
+    if let Err(fault) = draft_each(alloc, image, moment, &mut front, &mut last, edits) {
+        drop(front);
+        drop(last);
+        return Err(fault);
+    }
+    let changes = followed_by(alloc, front, last)?;
     Ok(Batch { changes })
 }

@@ -3,7 +3,7 @@ use Rattle.wm_prices.specs.Prices.{Spends}
 use Rattle.wm_spec.specs.declared.record.batch.Change.{Change}
 use Rattle.wm_state.specs.ById.{applied}
 use Rattle.wm_state.specs.Drafts.{Drafts}
-use Rattle.wm_draft.proofs.drafting.draft_all.Goals as goal
+use Rattle.wm_draft.proofs.drafting.draft.Goals as goal
 
 pub returns-clause-drafts : goal.returns-clause-drafts
 returns-clause-drafts c = subst (λ (cs : List Change). Drafts c.args.image.now c.args.moment c.args.edits.items cs) (sym c.in_ok-changes.ensures) c.in_default.ensures.drafts
