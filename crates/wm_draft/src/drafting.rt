@@ -106,10 +106,10 @@ fn draft_next(
     Ok(())
 }
 
-/// What the edits of a line at a moment make of the records: the changes of the last edit, and in front of them those of
-/// all others. These are applied to the image, so that each edit is drafted of what the ones before it left. Each adds
-/// work, since the numbers of versions and the makings of savepoints are held to it: the first the line's work less 1
-/// for each other one, each other one 1.
+/// What the edits of a line at a moment make of the records: the changes of the last edit, and in front of them those
+/// of all others. These are applied to the image, so that each edit is drafted of what the ones before it left. Each
+/// adds work, since the numbers of versions and the makings of savepoints are held to it: the first the line's work less
+/// 1 for each other one, each other one 1.
 fn draft_each(
     alloc: Global,
     image: &mut Image,
