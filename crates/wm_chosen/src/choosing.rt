@@ -118,7 +118,5 @@ pub fn chosen_rows(
     let columns = columns_of_table(alloc, &table.name, table)?;
     let key = key_asked(alloc, &columns, table, filter)?;
     let rows = rows_read(alloc, image, version, table, within, key)?;
-    let kept = chosen_of(alloc, &columns, filter, rows.into_vec());
-    drop(columns);
-    kept
+    chosen_of(alloc, &columns, filter, rows.into_vec())
 }
