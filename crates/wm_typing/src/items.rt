@@ -38,7 +38,12 @@ fn are_named(column: &Column, one: &Col, other: &Col) -> bool
 fn name_one(columns: &[Column], one: &Col, other: &Col) -> bool
     ensures { result ≡ name_one columns.now one.now other.now }
 {
-    columns.iter().any(|column| are_named(column, one, other))
+    for column in columns {
+        if are_named(column, one, other) {
+            return true;
+        }
+    }
+    false
 }
 
 /// Whether both may mean the source of the column.
@@ -52,9 +57,12 @@ fn are_of_source(column: &Column, one: &Col, other: &Col) -> bool
 fn share_source(columns: &[Column], one: &Col, other: &Col) -> bool
     ensures { result ≡ share_source columns.now one.now other.now }
 {
-    columns
-        .iter()
-        .any(|column| are_of_source(column, one, other))
+    for column in columns {
+        if are_of_source(column, one, other) {
+            return true;
+        }
+    }
+    false
 }
 
 /// Whether the name is WM_VALID, and it is no column there.
@@ -83,7 +91,12 @@ pub fn is_same_col(columns: &[Column], one: &Col, other: &Col) -> bool
 fn is_among(columns: &[Column], col: &Col, cols: &[Col]) -> bool
     ensures { result ≡ is_among columns.now col.now cols.now }
 {
-    cols.iter().any(|other| is_same_col(columns, col, other))
+    for other in cols {
+        if is_same_col(columns, col, other) {
+            return true;
+        }
+    }
+    false
 }
 
 fn col_of_operand(operand: &Operand) -> Option<&Col>
@@ -167,7 +180,12 @@ fn is_whole(column: &Column, col: &Col) -> bool
 fn is_grouped_by(groups: &[Col], column: &Column) -> bool
     ensures { result ≡ is_grouped_by groups.now column.now }
 {
-    groups.iter().any(|col| is_whole(column, col))
+    for col in groups {
+        if is_whole(column, col) {
+            return true;
+        }
+    }
+    false
 }
 
 /// The first of the columns that is not grouped by.
