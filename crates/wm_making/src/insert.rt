@@ -28,7 +28,12 @@ fn has_name(name: &Name, column: &TableColumn) -> bool
 fn is_there(name: &Name, columns: &[TableColumn]) -> bool
     ensures { result ≡ list_any (named_so name.now) columns.now }
 {
-    columns.iter().any(|column| has_name(name, column))
+    for column in columns {
+        if has_name(name, column) {
+            return true;
+        }
+    }
+    false
 }
 
 /// Whether it is the name of the column of periods.

@@ -37,16 +37,24 @@ fn declares(name: &Name, item: &CreateItem) -> bool
 pub fn is_declared(name: &Name, items: &[CreateItem]) -> bool
     ensures { result ≡ list_any (declares_name name.now) items.now }
 {
-    items.iter().any(|item| declares(name, item))
+    for item in items {
+        if declares(name, item) {
+            return true;
+        }
+    }
+    false
 }
 
 /// Whether the name is one of these.
 fn is_among(name: &Name, names: &[Name]) -> bool
     ensures { result ≡ list_any (bytes_eq name.now) names.now }
 {
-    names
-        .iter()
-        .any(|other| name.as_bytes() == other.as_bytes())
+    for other in names {
+        if name.as_bytes() == other.as_bytes() {
+            return true;
+        }
+    }
+    false
 }
 
 /// The first name of the list that is no column of the table, or stands in the list already.

@@ -19,11 +19,12 @@ const HEAVIEST_KEY: u64 = 200;
 fn is_key_at(table: &Table, place: usize) -> bool
     ensures { result ≡ key_at table.now place }
 {
-    table
-        .key_columns
-        .as_slice()
-        .iter()
-        .any(|key| place == usize::from(*key))
+    for key in table.key_columns.as_slice() {
+        if place == usize::from(*key) {
+            return true;
+        }
+    }
+    false
 }
 
 fn is_null(value: &Value) -> bool
