@@ -179,20 +179,28 @@ impl Engine {
         ensures say_quiet { P.say_faults station.new ≡ P.say_faults station.old }
         ensures unchanged { P.tells → IsErrOf result faults.Changed → ⊥ }
     {
-        let Some(image) = self.image.take() else {
+        let Some(mut image) = self.image.take() else {
             return Err(LineFault::Memory);
         };
-        let kept = run_line(
+        match run_line(
             alloc,
             station,
             &mut self.store,
             &mut self.sessions,
-            image,
+            &mut image,
             self.moment,
             line,
-        )?;
-        self.image = Some(kept.image);
-        self.moment = kept.moment;
-        Ok(kept.reply)
+        ) {
+            Ok(kept) => {
+                drop(self.image.replace(image));
+                self.moment = kept.moment;
+                Ok(kept.reply)
+            }
+            Err(fault) => {
+                // The records need not be those of the file any more.
+                drop(image);
+                Err(fault)
+            }
+        }
     }
 }

@@ -35,35 +35,74 @@ use wm_image::Image;
 use wm_plan::planned::{Changed, Planned, Timed};
 use wm_plan::seating::seat;
 use wm_plan::session::Session;
+use wm_state::edit::Edit;
 use wm_station::Station;
 use wm_store::Store;
 
-/// The records and the moment that a line left, and its answer.
+/// The moment that a line left, and its answer.
 #[derive(Drop)]
 pub struct Kept {
-    pub image: Image,
     pub moment: u64,
     pub reply: Reply,
 }
 
-/// Drafts what a line changes and commits it, does to the sessions what it does to them, and gives the records that it leaves.
+/// Drafts edits of the records, commits what they change, and makes it of the records.
+fn write<P: Station>(
+    alloc: Global,
+    station: &mut P,
+    store: &mut Store,
+    image: &mut Image,
+    moment: u64,
+    edits: Vec<Edit>,
+) -> Result<(), LineFault>
+    requires rules { keep_rules (parts_of image.old) ≡ true }
+    requires can { CanDraft image.old moment edits.items }
+    requires works { P.tells → KeepsOver store.old image.old (P.history station.old) }
+    ensures image { OnOk result (AreDrafted image.old moment edits.items image.new) }
+    ensures spends { OnOk result (Spends moment image.old edits.items image.new) }
+    ensures works { P.tells → OnOk result (KeepsOver store.new image.new (P.history station.new)) }
+    ensures any_moment { P.tells → Ended (P.history station.old) (P.history station.new) (λ file. HoldsSorted file image.old ⊎ HoldsDrafted file image.old moment edits.items) }
+    // Where nothing changes the file is not touched.
+    ensures nothing { P.tells → edits.items ≡ [] → P.history station.new ≡ P.history station.old }
+    ensures same_store { edits.items ≡ [] → OnOk result (store.new ≡ store.old) }
+    ensures later { P.disk_faults station.old ≤ P.disk_faults station.new }
+    ensures disk { IsErrOf result faults.Disk → Rises (P.disk_faults station.old) (P.disk_faults station.new) }
+    ensures cause { LineCause (P.disk_faults station.old) (P.disk_faults station.new) result }
+    ensures say_quiet { P.say_faults station.new ≡ P.say_faults station.old }
+    ensures unchanged { P.tells → IsErrOf result faults.Changed → ⊥ }
+{
+    let batch = draft(alloc, image, moment, edits)?;
+    match commit(alloc, station, store, &batch) {
+        Ok(()) => {
+            image.apply(alloc, batch)?;
+            Ok(())
+        }
+        Err(fault) => {
+            drop(batch);
+            Err(fault)
+        }
+    }
+}
+
+/// Does to the records, the store and the sessions what a line changes. After a fault the records need not be those of
+/// the store, and are given up.
 fn keep<P: Station>(
     alloc: Global,
     station: &mut P,
     store: &mut Store,
     sessions: &mut Vec<Session>,
-    image: Image,
+    image: &mut Image,
     moment: u64,
     changed: Changed,
-) -> Result<Image, LineFault>
-    requires rules { keep_rules (parts_of image) ≡ true }
-    requires can { CanDraft image moment changed.edits.items }
-    requires works { P.tells → KeepsOver store.old image (P.history station.old) }
-    ensures image { IfOk result (AreDrafted image moment changed.edits.items) }
-    ensures spends { IfOk result (Spends moment image changed.edits.items) }
+) -> Result<(), LineFault>
+    requires rules { keep_rules (parts_of image.old) ≡ true }
+    requires can { CanDraft image.old moment changed.edits.items }
+    requires works { P.tells → KeepsOver store.old image.old (P.history station.old) }
+    ensures image { OnOk result (AreDrafted image.old moment changed.edits.items image.new) }
+    ensures spends { OnOk result (Spends moment image.old changed.edits.items image.new) }
     ensures sessions { OnOk result (sessions.new.items ≡ seated sessions.old.items (seating_view changed.seating)) }
-    ensures works { P.tells → IfOk result (λ i. KeepsOver store.new i (P.history station.new)) }
-    ensures any_moment { P.tells → Ended (P.history station.old) (P.history station.new) (λ file. HoldsSorted file image ⊎ HoldsDrafted file image moment changed.edits.items) }
+    ensures works { P.tells → OnOk result (KeepsOver store.new image.new (P.history station.new)) }
+    ensures any_moment { P.tells → Ended (P.history station.old) (P.history station.new) (λ file. HoldsSorted file image.old ⊎ HoldsDrafted file image.old moment changed.edits.items) }
     // Where nothing changes the file is not touched.
     ensures nothing { P.tells → changed.edits.items ≡ [] → P.history station.new ≡ P.history station.old }
     ensures same_store { changed.edits.items ≡ [] → OnOk result (store.new ≡ store.old) }
@@ -74,47 +113,50 @@ fn keep<P: Station>(
     ensures unchanged { P.tells → IsErrOf result faults.Changed → ⊥ }
 {
     let Changed { edits, seating } = changed;
-    let mut image = image;
-    // Where this or what follows fails, the image is not that of the file, and is given up.
-    let batch = draft(alloc, &mut image, moment, edits)?;
-    commit(alloc, station, store, &batch)?;
-    image.apply(alloc, batch)?;
-    seat(alloc, sessions, seating)?;
-    Ok(image)
+    match write(alloc, station, store, image, moment, edits) {
+        Ok(()) => {
+            seat(alloc, sessions, seating)?;
+            Ok(())
+        }
+        Err(fault) => {
+            drop(seating);
+            Err(fault)
+        }
+    }
 }
 
-/// Runs a line over the records of a store.
+/// Runs a line over the records of a store. After a fault the records are given up.
 pub fn run_line<P: Station>(
     alloc: Global,
     station: &mut P,
     store: &mut Store,
     sessions: &mut Vec<Session>,
-    image: Image,
+    image: &mut Image,
     moment: u64,
     line: &[u8],
 ) -> Result<Kept, LineFault>
-    requires rules { keep_rules (parts_of image) ≡ true }
+    requires rules { keep_rules (parts_of image.old) ≡ true }
     requires moment { moment < END }
-    requires works { P.tells → KeepsOver store.old image (P.history station.old) }
-    ensures answered { IfOk result (λ k. (s : State) → StandsAt image sessions.old.items moment s → StandsAt k.image sessions.new.items k.moment (step s line.now).0 × (k.reply.bytes ≡ answer_text (step s line.now).1)) }
-    ensures kind { IfOk result (λ k. (s : State) → StandsAt image sessions.old.items moment s → k.reply.kind ≡ kind_of (step s line.now).1) }
-    ensures refused { IfOk result (λ k. (s : State) → StandsAt image sessions.old.items moment s → k.reply.refused ≡ refusal_of (step s line.now).1) }
+    requires works { P.tells → KeepsOver store.old image.old (P.history station.old) }
+    ensures answered { IfOk result (λ k. (s : State) → StandsAt image.old sessions.old.items moment s → StandsAt image.new sessions.new.items k.moment (step s line.now).0 × (k.reply.bytes ≡ answer_text (step s line.now).1)) }
+    ensures kind { IfOk result (λ k. (s : State) → StandsAt image.old sessions.old.items moment s → k.reply.kind ≡ kind_of (step s line.now).1) }
+    ensures refused { IfOk result (λ k. (s : State) → StandsAt image.old sessions.old.items moment s → k.reply.refused ≡ refusal_of (step s line.now).1) }
     // What it says of a refusal it says of all records, also of some that stand for no state: the bytes tell it, nothing changes, and the file is not touched.
     ensures refusal { IfOk result (λ k. IfSome k.reply.refused (λ refusal. k.reply.bytes ≡ answer_text (Refused refusal))) }
-    ensures unmoved { IfOk result (λ k. OnSome k.reply.refused ((store.new ≡ store.old) × (k.image ≡ image) × (sessions.new.items ≡ sessions.old.items) × (k.moment ≡ moment))) }
+    ensures unmoved { IfOk result (λ k. OnSome k.reply.refused ((store.new ≡ store.old) × (image.new ≡ image.old) × (sessions.new.items ≡ sessions.old.items) × (k.moment ≡ moment))) }
     ensures untouched { P.tells → IfOk result (λ k. OnSome k.reply.refused (P.history station.new ≡ P.history station.old)) }
-    ensures rules { IfOk result (λ k. keep_rules (parts_of k.image) ≡ true) }
+    ensures rules { OnOk result (keep_rules (parts_of image.new) ≡ true) }
     ensures moment { IfOk result (λ k. k.moment < END) }
-    ensures few { is_fork (parsed line.now) ≡ true → IfOk result (λ k. ChangesFew image k.image) }
-    ensures net { (workspace : List ℕ) → nets_into (parsed line.now) ≡ Some workspace → IfOk result (λ k. (s : State) → StandsAt image sessions.old.items moment s → ChangesAtMost (8 + 8 * stretch_count s workspace + mark_count image workspace) image k.image) }
-    ensures idle { IfOk result (λ k. (s : State) → StandsAt image sessions.old.items moment s → is_idle (step s line.now).1 ≡ true → (k.image ≡ image) × (sessions.new.items ≡ sessions.old.items) × (k.moment ≡ moment)) }
+    ensures few { is_fork (parsed line.now) ≡ true → OnOk result (ChangesFew image.old image.new) }
+    ensures net { (workspace : List ℕ) → nets_into (parsed line.now) ≡ Some workspace → IfOk result (λ k. (s : State) → StandsAt image.old sessions.old.items moment s → ChangesAtMost (8 + 8 * stretch_count s workspace + mark_count image.old workspace) image.old image.new) }
+    ensures idle { IfOk result (λ k. (s : State) → StandsAt image.old sessions.old.items moment s → is_idle (step s line.now).1 ≡ true → (image.new ≡ image.old) × (sessions.new.items ≡ sessions.old.items) × (k.moment ≡ moment)) }
     // A line that is refused, that reads, that changes no row, or that says nothing does not touch the file, whatever the result.
-    ensures unwritten { P.tells → (s : State) → StandsAt image sessions.old.items moment s → is_idle (step s line.now).1 ≡ true → P.history station.new ≡ P.history station.old }
+    ensures unwritten { P.tells → (s : State) → StandsAt image.old sessions.old.items moment s → is_idle (step s line.now).1 ≡ true → P.history station.new ≡ P.history station.old }
     // Nor does one that counts no work.
-    ensures workless { IfOk result (λ k. (s : State) → StandsAt image sessions.old.items moment s → (step s line.now).0.durable.work ≡ s.durable.work → k.image ≡ image) }
-    ensures workless_unwritten { P.tells → (s : State) → StandsAt image sessions.old.items moment s → (step s line.now).0.durable.work ≡ s.durable.work → P.history station.new ≡ P.history station.old }
-    ensures works { P.tells → IfOk result (λ k. KeepsOver store.new k.image (P.history station.new)) }
-    ensures any_moment { P.tells → (s : State) → StandsAt image sessions.old.items moment s → Ended (P.history station.old) (P.history station.new) (λ file. FileStands file s ⊎ FileStands file (step s line.now).0) }
+    ensures workless { IfOk result (λ k. (s : State) → StandsAt image.old sessions.old.items moment s → (step s line.now).0.durable.work ≡ s.durable.work → image.new ≡ image.old) }
+    ensures workless_unwritten { P.tells → (s : State) → StandsAt image.old sessions.old.items moment s → (step s line.now).0.durable.work ≡ s.durable.work → P.history station.new ≡ P.history station.old }
+    ensures works { P.tells → OnOk result (KeepsOver store.new image.new (P.history station.new)) }
+    ensures any_moment { P.tells → (s : State) → StandsAt image.old sessions.old.items moment s → Ended (P.history station.old) (P.history station.new) (λ file. FileStands file s ⊎ FileStands file (step s line.now).0) }
     // Whatever the records stand for, the file stays a store whose records keep the rules.
     ensures sound { P.tells → Ended (P.history station.old) (P.history station.new) IsSound }
     ensures later { P.disk_faults station.old ≤ P.disk_faults station.new }
@@ -126,26 +168,29 @@ pub fn run_line<P: Station>(
     let Timed {
         planned,
         moment: after,
-    } = plan(alloc, &image, sessions.as_slice(), moment, line)?;
+    } = plan(alloc, image, sessions.as_slice(), moment, line)?;
     let Planned {
         edits,
         seating,
         answer,
     } = planned;
-    let reply = reply_of(alloc, answer)?;
+    let changed = Changed { edits, seating };
+    let reply = match reply_of(alloc, answer) {
+        Ok(reply) => reply,
+        Err(memory) => {
+            drop(changed);
+            return Err(LineFault::from(memory));
+        }
+    };
     image.law_of_order();
-    let image = keep(
-        alloc,
-        station,
-        store,
-        sessions,
-        image,
-        moment,
-        Changed { edits, seating },
-    )?;
-    Ok(Kept {
-        image,
-        moment: after,
-        reply,
-    })
+    match keep(alloc, station, store, sessions, image, moment, changed) {
+        Ok(()) => Ok(Kept {
+            moment: after,
+            reply,
+        }),
+        Err(fault) => {
+            drop(reply);
+            Err(fault)
+        }
+    }
 }

@@ -2,6 +2,7 @@ use Rattle.std.proofs.Common.{◌≡◌, ◌+◌, ◌*◌, List, [], Option, unw
 use Rattle.wm_decided.specs.Staged.{AreStaged}
 use Rattle.wm_graph.specs.Parts.{parts_of}
 use Rattle.wm_model.specs.Planning.{StandsAt}
+use Rattle.wm_model.specs.Step.{step}
 use Rattle.wm_spec.specs.declared.record.stored.Stored.{Stored}
 use Rattle.wm_state.specs.State.{State}
 use Rattle.wm_state.specs.Standing.{Stands}
@@ -29,69 +30,85 @@ stands_at e rs s same for = record {
   staged = subst (λ (xs : List Stored). AreStaged (parts_of xs) e.sessions) same for.staged;
 }
 
-pub returns-clause-answered : goal.returns-clause-answered
-returns-clause-answered g c = λ s for.
-    let d = c.in_ok-kept.ensures.answered s (stands_at _ c.in-Some.image s (ap (λ (o : Option (List Stored)). unwrap_or o []) (sym c.in-Some.ensures.value)) (subst (λ (e : Engaged). StandsFor e s) (sym c.self.view_is) for)) in (record { stands = d.0.stands; lawful = d.0.lawful; sessions = d.0.sessions_are; moment = d.0.moment_is; staged = d.0.staged }, d.1)
-
-pub returns-clause-few : goal.returns-clause-few
-returns-clause-few g c = λ fork.
-    subst (λ (rs : List Stored). ChangesFew rs c.in_ok-kept.kept.image)
-    (sym (ap (λ (e : Engaged). e.records) (sym c.self.view_is) ∙ ap (λ (o : Option (List Stored)). unwrap_or o []) (sym c.in-Some.ensures.value)))
-    (c.in_ok-kept.ensures.few fork)
-
-pub returns-clause-idle : goal.returns-clause-idle
-returns-clause-idle g c = λ s for idle.
+pub returns-in-Ok-clause-answered : goal.returns-in-Ok-clause-answered
+returns-in-Ok-clause-answered g c = λ s for.
     let here = ap (λ (o : Option (List Stored)). unwrap_or o []) (sym c.in-Some.ensures.value) in
-    let kept = c.in_ok-kept.ensures.idle s (stands_at _ c.in-Some.image s here (subst (λ (e : Engaged). StandsFor e s) (sym c.self.view_is) for)) idle in (
-      kept.0 ∙ sym (ap (λ (e : Engaged). e.records) (sym c.self.view_is) ∙ here),
+    let after = ap (λ (o : Option (List Stored)). unwrap_or o []) (sym c.replace.ensures.after) in
+    let d = c.in-Ok.ensures.answered s (stands_at _ c.in-Some.image s here (subst (λ (e : Engaged). StandsFor e s) (sym c.self.view_is) for)) in (
+      record {
+        stands = subst (λ (rs : List Stored). Stands (parts_of rs) (step s c.args.line.now).0.durable) after d.0.stands;
+        lawful = d.0.lawful;
+        sessions = d.0.sessions_are;
+        moment = d.0.moment_is;
+        staged = subst (λ (rs : List Stored). AreStaged (parts_of rs) c.run_line.new.sessions.items) after d.0.staged;
+      },
+      d.1,
+    )
+
+pub returns-in-Ok-clause-few : goal.returns-in-Ok-clause-few
+returns-in-Ok-clause-few g c = λ fork.
+    let here = ap (λ (o : Option (List Stored)). unwrap_or o []) (sym c.in-Some.ensures.value) in
+    let after = ap (λ (o : Option (List Stored)). unwrap_or o []) (sym c.replace.ensures.after) in
+    subst (λ (rs : List Stored). ChangesFew c.args.self.now.records rs) after
+    (subst (λ (rs : List Stored). ChangesFew rs c.run_line.new.image) (sym (ap (λ (e : Engaged). e.records) (sym c.self.view_is) ∙ here)) (c.in-Ok.ensures.few fork))
+
+pub returns-in-Ok-clause-idle : goal.returns-in-Ok-clause-idle
+returns-in-Ok-clause-idle g c = λ s for idle.
+    let here = ap (λ (o : Option (List Stored)). unwrap_or o []) (sym c.in-Some.ensures.value) in
+    let after = ap (λ (o : Option (List Stored)). unwrap_or o []) (sym c.replace.ensures.after) in
+    let kept = c.in-Ok.ensures.idle s (stands_at _ c.in-Some.image s here (subst (λ (e : Engaged). StandsFor e s) (sym c.self.view_is) for)) idle in (
+      sym after ∙ kept.0 ∙ sym (ap (λ (e : Engaged). e.records) (sym c.self.view_is) ∙ here),
       kept.1 ∙ ap (λ (e : Engaged). e.sessions) c.self.view_is,
       kept.2 ∙ ap (λ (e : Engaged). e.moment) c.self.view_is,
     )
 
-pub returns-in_err-kept-clause-unwritten : goal.returns-in_err-kept-clause-unwritten
-returns-in_err-kept-clause-unwritten g c = λ told s for idle.
+pub returns-in-Err-clause-unwritten : goal.returns-in-Err-clause-unwritten
+returns-in-Err-clause-unwritten g c = λ told s for idle.
     let here = ap (λ (o : Option (List Stored)). unwrap_or o []) (sym c.in-Some.ensures.value) in
-    c.in_err-kept.ensures.unwritten told s (stands_at _ c.in-Some.image s here (subst (λ (e : Engaged). StandsFor e s) (sym c.self.view_is) for)) idle
+    c.in-Err.ensures.unwritten told s (stands_at _ c.in-Some.image s here (subst (λ (e : Engaged). StandsFor e s) (sym c.self.view_is) for)) idle
 
-pub returns-clause-unwritten : goal.returns-clause-unwritten
-returns-clause-unwritten g c = λ told s for idle.
+pub returns-in-Ok-clause-unwritten : goal.returns-in-Ok-clause-unwritten
+returns-in-Ok-clause-unwritten g c = λ told s for idle.
     let here = ap (λ (o : Option (List Stored)). unwrap_or o []) (sym c.in-Some.ensures.value) in
-    c.in_ok-kept.ensures.unwritten told s (stands_at _ c.in-Some.image s here (subst (λ (e : Engaged). StandsFor e s) (sym c.self.view_is) for)) idle
+    c.in-Ok.ensures.unwritten told s (stands_at _ c.in-Some.image s here (subst (λ (e : Engaged). StandsFor e s) (sym c.self.view_is) for)) idle
 
-pub returns-clause-workless : goal.returns-clause-workless
-returns-clause-workless g c = λ s for workless.
+pub returns-in-Ok-clause-workless : goal.returns-in-Ok-clause-workless
+returns-in-Ok-clause-workless g c = λ s for workless.
     let here = ap (λ (o : Option (List Stored)). unwrap_or o []) (sym c.in-Some.ensures.value) in
-    c.in_ok-kept.ensures.workless s (stands_at _ c.in-Some.image s here (subst (λ (e : Engaged). StandsFor e s) (sym c.self.view_is) for)) workless
+    let after = ap (λ (o : Option (List Stored)). unwrap_or o []) (sym c.replace.ensures.after) in
+    sym after
+    ∙ c.in-Ok.ensures.workless s (stands_at _ c.in-Some.image s here (subst (λ (e : Engaged). StandsFor e s) (sym c.self.view_is) for)) workless
     ∙ sym (ap (λ (e : Engaged). e.records) (sym c.self.view_is) ∙ here)
 
-pub returns-in_err-kept-clause-workless_unwritten : goal.returns-in_err-kept-clause-workless_unwritten
-returns-in_err-kept-clause-workless_unwritten g c = λ told s for workless.
+pub returns-in-Err-clause-workless_unwritten : goal.returns-in-Err-clause-workless_unwritten
+returns-in-Err-clause-workless_unwritten g c = λ told s for workless.
     let here = ap (λ (o : Option (List Stored)). unwrap_or o []) (sym c.in-Some.ensures.value) in
-    c.in_err-kept.ensures.workless_unwritten told s (stands_at _ c.in-Some.image s here (subst (λ (e : Engaged). StandsFor e s) (sym c.self.view_is) for)) workless
+    c.in-Err.ensures.workless_unwritten told s (stands_at _ c.in-Some.image s here (subst (λ (e : Engaged). StandsFor e s) (sym c.self.view_is) for)) workless
 
-pub returns-clause-workless_unwritten : goal.returns-clause-workless_unwritten
-returns-clause-workless_unwritten g c = λ told s for workless.
+pub returns-in-Ok-clause-workless_unwritten : goal.returns-in-Ok-clause-workless_unwritten
+returns-in-Ok-clause-workless_unwritten g c = λ told s for workless.
     let here = ap (λ (o : Option (List Stored)). unwrap_or o []) (sym c.in-Some.ensures.value) in
-    c.in_ok-kept.ensures.workless_unwritten told s (stands_at _ c.in-Some.image s here (subst (λ (e : Engaged). StandsFor e s) (sym c.self.view_is) for)) workless
+    c.in-Ok.ensures.workless_unwritten told s (stands_at _ c.in-Some.image s here (subst (λ (e : Engaged). StandsFor e s) (sym c.self.view_is) for)) workless
 
 -- ---- the kind of the answer
 
-pub returns-clause-kind : goal.returns-clause-kind
-returns-clause-kind g c = λ s for.
+pub returns-in-Ok-clause-kind : goal.returns-in-Ok-clause-kind
+returns-in-Ok-clause-kind g c = λ s for.
     let here = ap (λ (o : Option (List Stored)). unwrap_or o []) (sym c.in-Some.ensures.value) in
-    c.in_ok-kept.ensures.kind s (stands_at _ c.in-Some.image s here (subst (λ (e : Engaged). StandsFor e s) (sym c.self.view_is) for))
+    c.in-Ok.ensures.kind s (stands_at _ c.in-Some.image s here (subst (λ (e : Engaged). StandsFor e s) (sym c.self.view_is) for))
 
 -- ---- lines that are refused
 
-pub returns-clause-refused : goal.returns-clause-refused
-returns-clause-refused g c = λ s for.
+pub returns-in-Ok-clause-refused : goal.returns-in-Ok-clause-refused
+returns-in-Ok-clause-refused g c = λ s for.
     let here = ap (λ (o : Option (List Stored)). unwrap_or o []) (sym c.in-Some.ensures.value) in
-    c.in_ok-kept.ensures.refused s (stands_at _ c.in-Some.image s here (subst (λ (e : Engaged). StandsFor e s) (sym c.self.view_is) for))
+    c.in-Ok.ensures.refused s (stands_at _ c.in-Some.image s here (subst (λ (e : Engaged). StandsFor e s) (sym c.self.view_is) for))
 
-pub returns-clause-unmoved : goal.returns-clause-unmoved
-returns-clause-unmoved g c =
+pub returns-in-Ok-clause-unmoved : goal.returns-in-Ok-clause-unmoved
+returns-in-Ok-clause-unmoved g c =
     let here = ap (λ (o : Option (List Stored)). unwrap_or o []) (sym c.in-Some.ensures.value) in
-    on_some_weaker _ _ c.in_ok-kept.kept.reply.refused (λ same. engaged_same _ _ same.0 (same.1 ∙ sym here) same.2 same.3 ∙ c.self.view_is) c.in_ok-kept.ensures.unmoved
+    let after = ap (λ (o : Option (List Stored)). unwrap_or o []) (sym c.replace.ensures.after) in
+    on_some_weaker _ _ c.in-Ok.kept.reply.refused (λ same. engaged_same _ _ same.0 (sym after ∙ same.1 ∙ sym here) same.2 same.3 ∙ c.self.view_is) c.in-Ok.ensures.unmoved
 
 -- ---- whatever the records stand for
 
@@ -100,8 +117,10 @@ returns-in_default-clause-sound g c = λ told rules. sound_begun _ _ _ (c.requir
 
 -- ---- lines that refresh or merge
 
-pub returns-clause-net : goal.returns-clause-net
-returns-clause-net g c = λ workspace named s for.
+pub returns-in-Ok-clause-net : goal.returns-in-Ok-clause-net
+returns-in-Ok-clause-net g c = λ workspace named s for.
     let here = ap (λ (o : Option (List Stored)). unwrap_or o []) (sym c.in-Some.ensures.value) in
-    subst (λ (rs : List Stored). ChangesAtMost (8 + 8 * stretch_count s workspace + mark_count rs workspace) rs c.in_ok-kept.kept.image) (sym (ap (λ (e : Engaged). e.records) (sym c.self.view_is) ∙ here))
-    (c.in_ok-kept.ensures.net workspace named s (stands_at _ c.in-Some.image s here (subst (λ (e : Engaged). StandsFor e s) (sym c.self.view_is) for)))
+    let after = ap (λ (o : Option (List Stored)). unwrap_or o []) (sym c.replace.ensures.after) in
+    subst (λ (rs : List Stored). ChangesAtMost (8 + 8 * stretch_count s workspace + mark_count c.args.self.now.records workspace) c.args.self.now.records rs) after
+    (subst (λ (rs : List Stored). ChangesAtMost (8 + 8 * stretch_count s workspace + mark_count rs workspace) rs c.run_line.new.image) (sym (ap (λ (e : Engaged). e.records) (sym c.self.view_is) ∙ here))
+    (c.in-Ok.ensures.net workspace named s (stands_at _ c.in-Some.image s here (subst (λ (e : Engaged). StandsFor e s) (sym c.self.view_is) for))))
