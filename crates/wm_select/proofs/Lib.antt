@@ -14,3 +14,4 @@ pub mod GroupLemmas
 pub mod CountLemmas
 pub mod CapLemmas
 pub mod FindLemmas
+pub mod BareLemmas

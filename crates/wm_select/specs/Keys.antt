@@ -3,19 +3,28 @@ use Rattle.std.specs.Prelude.{List, [], ◌∷◌, ◌++◌, map, filter, if◌t
 use Rattle.wm_base.specs.declared.columns.Column.{Column}
 use Rattle.wm_base.specs.declared.row.Row.{Row}
 use Rattle.wm_base.specs.declared.tree.column.Col.{Col}
+use Rattle.wm_base.specs.declared.value.Value.{Value}
 use Rattle.wm_base.specs.Trees.{Query}
 use Rattle.wm_select.specs.declared.keyed.Keyed.{Keyed}
 use Rattle.wm_select.specs.declared.shown.Shown.{Shown}
 use Rattle.wm_select.specs.Sorting.{has_values_of}
 use Rattle.wm_select.specs.Query.{group_values, order_values}
 
--- a tuple, by the row that it shows
-abbrev pub keyed_by_row : Shown → Keyed
-keyed_by_row s = record { keys = s.row.values; row = s.tuple }
+-- the row of values
+abbrev pub row_of : List Value → Row
+row_of values = record { values = values }
 
--- and back
-abbrev pub shown_by_row : Keyed → Shown
-shown_by_row k = record { tuple = k.row; row = record { values = k.keys } }
+-- a tuple with the row of the values that it shows
+abbrev pub shown_by : List Value × Row → Shown
+shown_by p = record { tuple = p.1; row = row_of p.0 }
+
+-- a row with its keys
+abbrev pub keyed_by : List Value × Row → Keyed
+keyed_by p = record { keys = p.0; row = p.1 }
+
+-- a row that is shown, with its keys
+abbrev pub shown_keyed_by : List Value × Shown → Keyed
+shown_keyed_by p = record { keys = p.0; row = p.1.row }
 
 -- a tuple, by its values at the columns of GROUP BY
 abbrev pub keyed_by_group : List Col → List Column → Row → Keyed

@@ -1,5 +1,5 @@
 -- How values are put in order, a stable sort, and a list without repeats.
-use Rattle.std.specs.Prelude.{ℕ, Bool, if◌then◌else◌, List, [], ◌∷◌, Option, None, Some}
+use Rattle.std.specs.Prelude.{ℕ, Bool, if◌then◌else◌, List, [], ◌∷◌}
 use Rattle.std.specs.Ordering.{nat_cmp, ordering_then, is_lt, is_eq}
 use Rattle.std.specs.declared.cmp.Ordering.{Ordering}
 use Rattle.std.specs.declared.cmp.Ordering.TheVariants.{Equal}
@@ -58,11 +58,6 @@ changes_from same x (y ∷ ys) = if same x y then changes_from same x ys else y 
 abbrev pub changes : {X : Type 0} → (X → X → Bool) → List X → List X
 changes same [] = []
 changes same (x ∷ xs) = x ∷ changes_from same x xs
-
--- the same, behind the last one that stays, where there is one
-abbrev pub changes_behind : {X : Type 0} → (X → X → Bool) → Option X → List X → List X
-changes_behind same None xs = changes same xs
-changes_behind same (Some x) xs = changes_from same x xs
 
 -- the values of one go before those of another, each in its direction
 abbrev pub goes_by : {X : Type 0} → List Bool → (X → List Value) → X → X → Bool

@@ -1,54 +1,41 @@
 //! Rows of an answer, each once.
-ghost use Rattle.std.specs.Prelude.{◌≡◌, map, IfOk};
-ghost use Rattle.wm_select.specs.declared.keyed.Keyed.{Keyed as KeyedRow};
+ghost use Rattle.std.specs.Prelude.{◌≡◌, OnOk};
 ghost use Rattle.wm_select.specs.declared.shown.Shown.{Shown as ShownRow};
-ghost use Rattle.wm_select.specs.Sorting.{distinct_by};
-ghost use Rattle.wm_select.specs.Keys.{keyed_by_row, shown_by_row};
+ghost use Rattle.wm_select.specs.Sorting.{changes, distinct_by, has_values_of, sorted, stands_before};
 
-use crate::keyed::Keyed;
-use crate::order::{changes, sort_ascending};
+use crate::order::left_to_right;
 use crate::shown::Shown;
-use std::alloc::Global;
-use wm_base::{Memory, Row};
+use wm_base::Memory;
 
-/// The tuples of what is shown, each with the values shown as its keys.
-fn keyed_by_row(alloc: Global, shown: &[Shown]) -> Result<Vec<Keyed>, Memory>
-    ensures { IfOk result (λ keyed. keyed.items ≡ map keyed_by_row shown.now) }
+/// Puts what is shown in ascending order. Equal rows stay as they stood.
+fn sort_shown(shown: &mut Vec<Shown>) -> Result<(), Memory>
+    ensures { OnOk result (shown.new.items ≡ sorted (stands_before (λ (s : ShownRow). s.row.values)) shown.old.items) }
 {
-    let mut keyed = Vec::with_capacity(alloc, shown.len())?;
-    for one in shown {
-        keyed.push(Keyed {
-            keys: one.row.values.copy(alloc)?,
-            row: one.tuple.copy(alloc)?,
-        })?;
-    }
-    Ok(keyed)
+    shown.sort_by(|one, other| {
+        left_to_right(one.row.values.as_slice(), other.row.values.as_slice())
+    })?;
+    Ok(())
 }
 
-/// The rows that are made of keys, with their tuples.
-fn shown_by_row(alloc: Global, keyed: &[Keyed]) -> Result<Vec<Shown>, Memory>
-    ensures { IfOk result (λ shown. shown.items ≡ map shown_by_row keyed.now) }
+/// Whether the two show the same row.
+fn has_row_of(one: &Shown, other: &Shown) -> bool
+    ensures { result ≡ has_values_of (λ (s : ShownRow). s.row.values) one.now other.now }
 {
-    let mut shown = Vec::with_capacity(alloc, keyed.len())?;
-    for one in keyed {
-        shown.push(Shown {
-            tuple: one.row.copy(alloc)?,
-            row: Row {
-                values: one.keys.copy(alloc)?,
-            },
-        })?;
-    }
-    Ok(shown)
+    left_to_right(one.row.values.as_slice(), other.row.values.as_slice()).is_eq()
+}
+
+/// Lets go what shows the same row as the one that stays before it.
+fn keep_changes(shown: &mut Vec<Shown>)
+    ensures { shown.new.items ≡ changes (has_values_of (λ (s : ShownRow). s.row.values)) shown.old.items }
+{
+    shown.dedup_by(|later, kept| has_row_of(kept, later));
 }
 
 /// Each row once, in ascending order.
-#[tactic(auto, using(crate::proofs::KeyLemmas::distinct_shown))]
-pub fn distinct(alloc: Global, shown: &[Shown]) -> Result<Vec<Shown>, Memory>
-    ensures { IfOk result (λ once. once.items ≡ distinct_by (λ (s : ShownRow). s.row.values) shown.now) }
+pub fn distinct(shown: &mut Vec<Shown>) -> Result<(), Memory>
+    ensures { OnOk result (shown.new.items ≡ distinct_by (λ (s : ShownRow). s.row.values) shown.old.items) }
 {
-    let mut keyed = keyed_by_row(alloc, shown)?;
-    sort_ascending(&mut keyed)?;
-    let kept = changes(alloc, keyed.as_slice())?;
-    let once = shown_by_row(alloc, kept.as_slice())?;
-    Ok(once)
+    sort_shown(shown)?;
+    keep_changes(shown);
+    Ok(())
 }

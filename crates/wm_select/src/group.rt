@@ -1,70 +1,106 @@
-//! What each row of an answer is made of.
-ghost use Rattle.std.specs.Prelude.{◌≡◌, [], ◌∷◌, map, IfOk};
-ghost use Rattle.wm_base.specs.declared.row.Row.{Row as RowOf};
-ghost use Rattle.wm_base.specs.Views.{query_view};
-ghost use Rattle.wm_select.specs.Query.{group_values, in_groups, groups_of};
-ghost use Rattle.wm_select.specs.Keys.{keyed_by_group, cut};
+//! Groups of rows.
+ghost use Rattle.std.specs.Prelude.{◌≡◌, ◌++◌, [], ◌∷◌, map, IfOk, OnOk};
+ghost use Rattle.wm_select.specs.declared.keyed.Keyed.{Keyed as KeyedRow};
+ghost use Rattle.wm_select.specs.Query.{group_values, in_groups};
+ghost use Rattle.wm_select.specs.Sorting.{sorted, stands_before};
+ghost use Rattle.wm_select.specs.Keys.{keyed_by_group, cut, cut_from};
 
 use crate::copied::push_copy;
-use crate::keyed::Keyed;
+use crate::keyed::{Keyed, all_keyed};
 use crate::order::{has_keys_of, sort_ascending};
 use std::alloc::Global;
 use std::mem;
 use wm_base::tree::column::Col;
-use wm_base::tree::query::Query;
 use wm_base::{Column, Columns, Memory, Row, RowList, Value, Values};
 use wm_expr::owned::column_value;
 
-/// The values of a row at the columns of GROUP BY.
-fn group_values(
+/// Adds the values of a row at the columns of GROUP BY.
+fn push_group_values(
     alloc: Global,
+    values: &mut Values,
     cols: &[Col],
     columns: &[Column],
     row: &[Value],
-) -> Result<Vec<Value>, Memory>
-    ensures { IfOk result (λ values. values.items ≡ group_values cols.now columns.now (record { values = row.now })) }
+) -> Result<(), Memory>
+    ensures { OnOk result (values.new ≡ values.old ++ group_values cols.now columns.now (record { values = row.now })) }
 {
-    let mut values = Vec::with_capacity(alloc, cols.len())?;
     for col in cols {
         values.push(column_value(alloc, col, columns, row)?)?;
     }
+    Ok(())
+}
+
+/// The values of a row at the columns of GROUP BY.
+fn group_values(alloc: Global, cols: &[Col], columns: &Columns, row: &Row) -> Result<Values, Memory>
+    ensures { IfOk result (λ values. values ≡ group_values cols.now columns.now row.now) }
+{
+    let mut values = Values::new(alloc);
+    let row = row.values.as_slice();
+    push_group_values(alloc, &mut values, cols, columns.as_slice(), row)?;
     Ok(values)
 }
 
-/// A row with its values at the columns of GROUP BY.
-fn keyed(alloc: Global, cols: &[Col], columns: &Columns, row: &Row) -> Result<Keyed, Memory>
-    ensures { IfOk result (λ keyed. keyed ≡ keyed_by_group cols.now columns.now row.now) }
+/// Adds the values of each row at the columns of GROUP BY.
+fn push_all_values(
+    alloc: Global,
+    keys: &mut Vec<Values>,
+    cols: &[Col],
+    columns: &Columns,
+    rows: &[Row],
+) -> Result<(), Memory>
+    ensures { OnOk result (keys.new.items ≡ keys.old.items ++ map (group_values cols.now columns.now) rows.now) }
 {
-    let values = group_values(alloc, cols, columns.as_slice(), row.values.as_slice())?;
-    Ok(Keyed {
-        keys: Values::from_vec(values),
-        row: row.copy(alloc)?,
-    })
+    for row in rows {
+        keys.push(group_values(alloc, cols, columns, row)?)?;
+    }
+    Ok(())
 }
 
-fn all_keyed(
+/// The values of each row at the columns of GROUP BY.
+fn all_values(
     alloc: Global,
     cols: &[Col],
     columns: &Columns,
     rows: &[Row],
-) -> Result<Vec<Keyed>, Memory>
-    ensures { IfOk result (λ all. all.items ≡ map (keyed_by_group cols.now columns.now) rows.now) }
+) -> Result<Vec<Values>, Memory>
+    ensures { IfOk result (λ keys. keys.items ≡ map (group_values cols.now columns.now) rows.now) }
 {
-    let mut all = Vec::with_capacity(alloc, rows.len())?;
-    for row in rows {
-        all.push(keyed(alloc, cols, columns, row)?)?;
-    }
-    Ok(all)
+    let mut keys = Vec::new(alloc);
+    push_all_values(alloc, &mut keys, cols, columns, rows)?;
+    Ok(keys)
 }
 
-/// The rows of each stretch of the same keys.
-fn cut(alloc: Global, rows: &[Keyed]) -> Result<Vec<RowList>, Memory>
-    ensures { IfOk result (λ groups. groups.items ≡ cut rows.now) }
+/// The rows, each with its values at the columns of GROUP BY.
+#[tactic(auto, using(crate::proofs::KeyLemmas::keyed_groups))]
+fn keyed_rows(
+    alloc: Global,
+    cols: &[Col],
+    columns: &Columns,
+    rows: Vec<Row>,
+) -> Result<Vec<Keyed>, Memory>
+    ensures { IfOk result (λ all. all.items ≡ map (keyed_by_group cols.now columns.now) rows.items) }
 {
-    let mut groups = Vec::new(alloc);
-    let [first, others @ ..] = rows else {
-        return Ok(groups);
-    };
+    match all_values(alloc, cols, columns, rows.as_slice()) {
+        Ok(keys) => {
+            let all = all_keyed(alloc, keys, rows)?;
+            Ok(all)
+        }
+        Err(fault) => {
+            drop(rows);
+            Err(fault)
+        }
+    }
+}
+
+/// Adds the rows of each stretch of the same keys, of which the first is begun.
+fn push_cut(
+    alloc: Global,
+    groups: &mut Vec<RowList>,
+    first: &Keyed,
+    others: &[Keyed],
+) -> Result<(), Memory>
+    ensures { OnOk result (groups.new.items ≡ groups.old.items ++ cut_from first.now (first.now.row ∷ []) others.now) }
+{
     let mut first = first;
     let mut group = RowList::new(alloc);
     push_copy(alloc, &mut group, &first.row)?;
@@ -76,12 +112,41 @@ fn cut(alloc: Global, rows: &[Keyed]) -> Result<Vec<RowList>, Memory>
         push_copy(alloc, &mut group, &row.row)?;
     }
     groups.push(group)?;
+    Ok(())
+}
+
+/// The rows of each stretch of the same keys.
+fn cut(alloc: Global, rows: &[Keyed]) -> Result<Vec<RowList>, Memory>
+    ensures { IfOk result (λ groups. groups.items ≡ cut rows.now) }
+{
+    let mut groups = Vec::new(alloc);
+    if let [first, others @ ..] = rows {
+        push_cut(alloc, &mut groups, first, others)?;
+    }
+    Ok(groups)
+}
+
+/// One group of all rows.
+fn whole(alloc: Global, rows: RowList) -> Result<Vec<RowList>, Memory>
+    ensures { IfOk result (λ groups. groups.items ≡ rows ∷ []) }
+{
+    let mut groups = Vec::new(alloc);
+    groups.push(rows)?;
+    Ok(groups)
+}
+
+/// The groups of rows with their values: one for each list of values, in ascending order.
+fn sorted_groups(alloc: Global, all: &mut Vec<Keyed>) -> Result<Vec<RowList>, Memory>
+    ensures { IfOk result (λ groups. groups.items ≡ cut (sorted (stands_before (λ (row : KeyedRow). row.keys)) all.old.items)) }
+{
+    sort_ascending(all)?;
+    let groups = cut(alloc, all.as_slice())?;
     Ok(groups)
 }
 
 /// The groups of the rows: with GROUP BY one for each list of its values, in ascending order, else one of all rows.
 #[tactic(auto, using(crate::proofs::GroupLemmas::groups_cut))]
-fn in_groups(
+pub fn in_groups(
     alloc: Global,
     cols: &[Col],
     columns: &Columns,
@@ -90,43 +155,12 @@ fn in_groups(
     ensures { IfOk result (λ groups. groups.items ≡ in_groups cols.now columns.now rows) }
 {
     if cols.is_empty() {
-        let mut groups = Vec::new(alloc);
-        groups.push(rows)?;
+        let groups = whole(alloc, rows)?;
         return Ok(groups);
     }
-    let mut all = all_keyed(alloc, cols, columns, rows.as_slice())?;
-    sort_ascending(&mut all)?;
-    let groups = cut(alloc, all.as_slice())?;
+    let mut all = keyed_rows(alloc, cols, columns, rows.into_vec())?;
+    let found = sorted_groups(alloc, &mut all);
+    drop(all);
+    let groups = found?;
     Ok(groups)
-}
-
-/// Each row as a group of its own.
-fn alone(alloc: Global, rows: &[Row]) -> Result<Vec<RowList>, Memory>
-    ensures { IfOk result (λ groups. groups.items ≡ map (λ (row : RowOf). row ∷ []) rows.now) }
-{
-    let mut groups = Vec::with_capacity(alloc, rows.len())?;
-    for row in rows {
-        let mut group = RowList::new(alloc);
-        push_copy(alloc, &mut group, row)?;
-        groups.push(group)?;
-    }
-    Ok(groups)
-}
-
-/// What each row of the answer is made of: a group, or one tuple where the query has no groups.
-pub fn groups_of(
-    alloc: Global,
-    query: &Query,
-    columns: &Columns,
-    rows: RowList,
-) -> Result<Vec<RowList>, Memory>
-    ensures { IfOk result (λ groups. groups.items ≡ groups_of (query_view query.now) columns.now rows) }
-{
-    if query.is_grouped() {
-        let groups = in_groups(alloc, query.groups.as_slice(), columns, rows)?;
-        Ok(groups)
-    } else {
-        let groups = alone(alloc, rows.as_slice())?;
-        Ok(groups)
-    }
 }

@@ -1,15 +1,19 @@
 //! What a query shows for a group of tuples.
-ghost use Rattle.std.specs.Prelude.{◌≡◌, true, map, IfOk};
+ghost use Rattle.std.specs.Prelude.{◌≡◌, [], ◌∷◌, true, map, IfErr, IfOk};
+ghost use Rattle.std.specs.List.{zip};
 ghost use Rattle.std.specs.Result.{IsErrOf};
 ghost use Rattle.wm_base.specs.declared.row.Row.{Row as RowOf};
 ghost use Rattle.wm_base.specs.Trees.{Aggregate, Outs, Out as OutTree};
 ghost use Rattle.wm_base.specs.Views.{expr_view, item_view, outs_view, projection_view};
 ghost use Rattle.wm_spec.specs.Expressions.{value_of, has_no_empty_period};
+ghost use Rattle.wm_select.specs.Keys.{row_of, shown_by};
 ghost use Rattle.wm_select.specs.Query.{all_there, first_row, item_value, projected, shown_of, item_lasts, projection_lasts};
 
 use crate::aggregates::aggregated;
-use crate::shown::Shown;
+use crate::kept::blank;
+use crate::shown::{Shown, all_beside, row_values};
 use std::alloc::Global;
+use std::slice;
 use wm_base::tree::expr::Expr;
 use wm_base::tree::query::{Agg, Item, Out, Projection};
 use wm_base::{Columns, Memory, Row, RowList, Value, Values};
@@ -40,9 +44,7 @@ fn first_row(alloc: Global, group: &[Row]) -> Result<Row, Memory>
 {
     match group {
         [row, ..] => row.copy(alloc),
-        [] => Ok(Row {
-            values: Values::new(alloc),
-        }),
+        [] => Ok(blank(alloc)),
     }
 }
 
@@ -57,8 +59,10 @@ fn plain_value(
     ensures ok { IfOk result (λ value. value_of (expr_view expr.now) columns.now (first_row group.now) ≡ Some value) }
     ensures out_of_range { IsErrOf result ValueFault.OutOfRange → value_of (expr_view expr.now) columns.now (first_row group.now) ≡ None }
 {
-    let row = first_row(alloc, group).map_err(|_| ValueFault::Memory)?;
-    value(alloc, expr, columns, &row)
+    match group {
+        [row, ..] => value(alloc, expr, columns, row),
+        [] => value(alloc, expr, columns, &blank(alloc)),
+    }
 }
 
 /// The aggregate of an expression on the rows of the group.
@@ -169,4 +173,78 @@ pub fn all_shown(
         shown.push(one).map_err(|_| ValueFault::Memory)?;
     }
     Ok(shown)
+}
+
+/// The row that each tuple shows where it stands alone.
+fn all_projected(
+    alloc: Global,
+    projection: &Projection,
+    columns: &Columns,
+    tuples: &[Row],
+) -> Result<Vec<Row>, ValueFault>
+    requires { projection_lasts (projection_view projection.now) ≡ true }
+    ensures ok { IfOk result (λ rows. all_there (map (λ (t : RowOf). projected (projection_view projection.now) columns.now (t ∷ [])) tuples.now) ≡ Some rows.items) }
+    ensures out_of_range { IsErrOf result ValueFault.OutOfRange → all_there (map (λ (t : RowOf). projected (projection_view projection.now) columns.now (t ∷ [])) tuples.now) ≡ None }
+{
+    let mut rows = Vec::new(alloc);
+    for tuple in tuples {
+        let row = projected(alloc, projection, columns, slice::from_ref(tuple))?;
+        rows.push(row).map_err(|_| ValueFault::Memory)?;
+    }
+    Ok(rows)
+}
+
+/// The values of the row that each tuple shows where it stands alone.
+#[tactic(auto, using(crate::proofs::ItemLemmas::there_again))]
+fn all_values(
+    alloc: Global,
+    projection: &Projection,
+    columns: &Columns,
+    tuples: &[Row],
+) -> Result<Vec<Values>, ValueFault>
+    requires { projection_lasts (projection_view projection.now) ≡ true }
+    ensures ok { IfOk result (λ values. all_there (map (λ (t : RowOf). projected (projection_view projection.now) columns.now (t ∷ [])) tuples.now) ≡ Some (map row_of values.items)) }
+    ensures out_of_range { IsErrOf result ValueFault.OutOfRange → all_there (map (λ (t : RowOf). projected (projection_view projection.now) columns.now (t ∷ [])) tuples.now) ≡ None }
+{
+    let rows = all_projected(alloc, projection, columns, tuples)?;
+    match row_values(alloc, rows) {
+        Ok(values) => Ok(values),
+        Err(_) => Err(ValueFault::Memory),
+    }
+}
+
+/// The tuples, each with the row of the values that it shows.
+fn beside_values(
+    alloc: Global,
+    values: Vec<Values>,
+    tuples: Vec<Row>,
+) -> Result<Vec<Shown>, ValueFault>
+    ensures ok { IfOk result (λ shown. shown.items ≡ map shown_by (zip values.items tuples.items)) }
+    ensures memory { IfErr result (λ fault. fault ≡ ValueFault.Memory) }
+{
+    all_beside(alloc, values, tuples).map_err(|_| ValueFault::Memory)
+}
+
+/// What is shown for tuples that stand alone.
+#[tactic(auto, using(crate::proofs::ItemLemmas::alone_shown, crate::proofs::ItemLemmas::alone_none))]
+pub fn shown_alone(
+    alloc: Global,
+    projection: &Projection,
+    columns: &Columns,
+    tuples: Vec<Row>,
+) -> Result<Vec<Shown>, ValueFault>
+    requires { projection_lasts (projection_view projection.now) ≡ true }
+    ensures ok { IfOk result (λ shown. all_there (map (shown_of (projection_view projection.now) columns.now) (map (λ (t : RowOf). t ∷ []) tuples.items)) ≡ Some shown.items) }
+    ensures out_of_range { IsErrOf result ValueFault.OutOfRange → all_there (map (shown_of (projection_view projection.now) columns.now) (map (λ (t : RowOf). t ∷ []) tuples.items)) ≡ None }
+{
+    match all_values(alloc, projection, columns, tuples.as_slice()) {
+        Ok(values) => {
+            let shown = beside_values(alloc, values, tuples)?;
+            Ok(shown)
+        }
+        Err(fault) => {
+            drop(tuples);
+            Err(fault)
+        }
+    }
 }

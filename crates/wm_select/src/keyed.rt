@@ -1,6 +1,10 @@
 //! A row with the values that put it in order.
-ghost use Rattle.std.specs.Prelude.{◌≡◌, IfOk};
+ghost use Rattle.std.specs.Prelude.{◌≡◌, map, IfOk};
+ghost use Rattle.std.specs.List.{zip};
+ghost use Rattle.wm_select.specs.declared.keyed.Keyed.{Keyed as KeyedRow};
+ghost use Rattle.wm_select.specs.Keys.{keyed_by, shown_keyed_by};
 
+use crate::shown::Shown;
 use std::alloc::Global;
 use wm_base::{Memory, Row, Values};
 
@@ -11,13 +15,38 @@ pub struct Keyed {
     pub row: Row,
 }
 
-impl Keyed {
-    pub fn copy(&self, alloc: Global) -> Result<Keyed, Memory>
-        ensures { IfOk result (λ keyed. keyed ≡ self.now) }
-    {
-        Ok(Keyed {
-            keys: self.keys.copy(alloc)?,
-            row: self.row.copy(alloc)?,
-        })
-    }
+/// The rows, each with its keys.
+pub fn all_keyed(alloc: Global, keys: Vec<Values>, rows: Vec<Row>) -> Result<Vec<Keyed>, Memory>
+    ensures { IfOk result (λ keyed. keyed.items ≡ map keyed_by (zip keys.items rows.items)) }
+{
+    let keyed = keys
+        .into_iter()
+        .zip(rows)
+        .map(|(keys, row)| Keyed { keys, row })
+        .collect(alloc)?;
+    Ok(keyed)
+}
+
+/// The rows that are shown, each with its keys.
+pub fn all_shown_keyed(
+    alloc: Global,
+    keys: Vec<Values>,
+    shown: Vec<Shown>,
+) -> Result<Vec<Keyed>, Memory>
+    ensures { IfOk result (λ keyed. keyed.items ≡ map shown_keyed_by (zip keys.items shown.items)) }
+{
+    let keyed = keys
+        .into_iter()
+        .zip(shown)
+        .map(|(keys, one)| Keyed { keys, row: one.row })
+        .collect(alloc)?;
+    Ok(keyed)
+}
+
+/// The rows without their keys.
+pub fn keyed_rows(alloc: Global, keyed: Vec<Keyed>) -> Result<Vec<Row>, Memory>
+    ensures { IfOk result (λ rows. rows.items ≡ map (λ (k : KeyedRow). k.row) keyed.items) }
+{
+    let rows = keyed.into_iter().map(|one| one.row).collect(alloc)?;
+    Ok(rows)
 }

@@ -1,10 +1,9 @@
 //! How lists of values are put in order.
-ghost use Rattle.std.specs.Prelude.{◌≡◌, IfOk, OnOk};
+ghost use Rattle.std.specs.Prelude.{◌≡◌, OnOk};
 ghost use Rattle.wm_select.specs.declared.keyed.Keyed.{Keyed as KeyedRow};
-ghost use Rattle.wm_select.specs.Sorting.{null_place, ascending, directed, first_value, other_values, by_directions, left_to_right, sorted, goes_by, stands_before, has_values_of, changes, changes_behind};
+ghost use Rattle.wm_select.specs.Sorting.{null_place, ascending, directed, first_value, other_values, by_directions, left_to_right, sorted, goes_by, stands_before, has_values_of};
 
 use crate::keyed::Keyed;
-use std::alloc::Global;
 use std::cmp::Ordering;
 use wm_base::{Memory, Value};
 
@@ -117,22 +116,4 @@ pub fn has_keys_of(one: &Keyed, other: &Keyed) -> bool
     ensures { result ≡ has_values_of (λ (row : KeyedRow). row.keys) one.now other.now }
 {
     left_to_right(one.keys.as_slice(), other.keys.as_slice()).is_eq()
-}
-
-/// Copies of the rows whose keys differ from those of the last one that is copied.
-pub fn changes(alloc: Global, rows: &[Keyed]) -> Result<Vec<Keyed>, Memory>
-    ensures { IfOk result (λ kept. kept.items ≡ changes (has_values_of (λ (row : KeyedRow). row.keys)) rows.now) }
-{
-    let mut kept = Vec::new(alloc);
-    let mut last: Option<&Keyed> = None;
-    for row in rows {
-        match last {
-            Some(one) if has_keys_of(one, row) => {}
-            _ => {
-                kept.push(row.copy(alloc)?)?;
-                last = Some(row);
-            }
-        }
-    }
-    Ok(kept)
 }

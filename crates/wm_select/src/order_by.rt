@@ -1,5 +1,5 @@
 //! ORDER BY.
-ghost use Rattle.std.specs.Prelude.{◌≡◌, map, option_map, unwrap_or, IfOk};
+ghost use Rattle.std.specs.Prelude.{◌≡◌, ◌++◌, map, option_map, unwrap_or, IfOk, OnOk};
 ghost use Rattle.std.specs.List.{position};
 ghost use Rattle.wm_base.specs.declared.tree.query.Order.{Order as OrderOf};
 ghost use Rattle.wm_base.specs.declared.tree.query.Out.{Out as OutNode};
@@ -7,14 +7,13 @@ ghost use Rattle.wm_base.specs.Trees.{Outs};
 ghost use Rattle.wm_base.specs.Views.{outs_view, projection_view, query_view};
 ghost use Rattle.wm_select.specs.declared.keyed.Keyed.{Keyed as KeyedRow};
 ghost use Rattle.wm_select.specs.declared.shown.Shown.{Shown as ShownRow};
-ghost use Rattle.wm_select.specs.Sorting.{sorted};
-ghost use Rattle.wm_select.specs.Query.{has_name, named_item, shown_value, value_at_name, place_of, order_value, directions_of, goes_before};
+ghost use Rattle.wm_select.specs.Sorting.{goes_by, sorted};
+ghost use Rattle.wm_select.specs.Query.{has_name, named_item, shown_value, value_at_name, place_of, order_value, order_values, directions_of, goes_before};
 ghost use Rattle.wm_select.specs.Keys.{keyed_by_order};
 
-use crate::copied::push_copy;
-use crate::keyed::Keyed;
+use crate::keyed::{Keyed, all_shown_keyed, keyed_rows};
 use crate::order::sort_directed;
-use crate::shown::Shown;
+use crate::shown::{Shown, shown_rows};
 use std::alloc::Global;
 use wm_base::tree::column::Col;
 use wm_base::tree::query::{Order, OrderBy, Out, Projection, Query};
@@ -126,47 +125,88 @@ fn order_value(
     }
 }
 
-fn order_values(
+/// Adds what a row is put in order by.
+fn push_order_values(
     alloc: Global,
     projection: &Projection,
     orders: &[Order],
     columns: &Columns,
     shown: &Shown,
-) -> Result<Vec<Value>, Memory>
-    ensures { IfOk result (λ values. values.items ≡ map (λ (o : OrderOf). order_value (projection_view projection.now) columns.now shown.now o.by) orders.now) }
+    keys: &mut Values,
+) -> Result<(), Memory>
+    ensures { OnOk result (keys.new ≡ keys.old ++ map (λ (o : OrderOf). order_value (projection_view projection.now) columns.now shown.now o.by) orders.now) }
 {
-    let mut values = Vec::with_capacity(alloc, orders.len())?;
     for order in orders {
-        values.push(order_value(alloc, projection, columns, shown, &order.by)?)?;
+        keys.push(order_value(alloc, projection, columns, shown, &order.by)?)?;
     }
-    Ok(values)
+    Ok(())
 }
 
-/// A row that is shown, with what it is put in order by.
-fn keyed(alloc: Global, query: &Query, columns: &Columns, shown: &Shown) -> Result<Keyed, Memory>
-    ensures { IfOk result (λ keyed. keyed ≡ keyed_by_order (query_view query.now) columns.now shown.now) }
+/// What a row is put in order by.
+fn order_values(
+    alloc: Global,
+    query: &Query,
+    columns: &Columns,
+    shown: &Shown,
+) -> Result<Values, Memory>
+    ensures { IfOk result (λ keys. keys ≡ order_values (query_view query.now) columns.now shown.now) }
 {
+    let mut keys = Values::new(alloc);
     let orders = query.orders.as_slice();
-    let values = order_values(alloc, &query.projection, orders, columns, shown)?;
-    Ok(Keyed {
-        keys: Values::from_vec(values),
-        row: shown.row.copy(alloc)?,
-    })
+    push_order_values(alloc, &query.projection, orders, columns, shown, &mut keys)?;
+    Ok(keys)
 }
 
-fn all_keyed(
+/// Adds what each row is put in order by.
+fn push_all_values(
     alloc: Global,
     query: &Query,
     columns: &Columns,
     shown: &[Shown],
-) -> Result<Vec<Keyed>, Memory>
-    ensures { IfOk result (λ all. all.items ≡ map (keyed_by_order (query_view query.now) columns.now) shown.now) }
+    keys: &mut Vec<Values>,
+) -> Result<(), Memory>
+    ensures { OnOk result (keys.new.items ≡ keys.old.items ++ map (order_values (query_view query.now) columns.now) shown.now) }
 {
-    let mut all = Vec::with_capacity(alloc, shown.len())?;
     for one in shown {
-        all.push(keyed(alloc, query, columns, one)?)?;
+        keys.push(order_values(alloc, query, columns, one)?)?;
     }
-    Ok(all)
+    Ok(())
+}
+
+/// What each row is put in order by.
+fn all_values(
+    alloc: Global,
+    query: &Query,
+    columns: &Columns,
+    shown: &[Shown],
+) -> Result<Vec<Values>, Memory>
+    ensures { IfOk result (λ keys. keys.items ≡ map (order_values (query_view query.now) columns.now) shown.now) }
+{
+    let mut keys = Vec::new(alloc);
+    push_all_values(alloc, query, columns, shown, &mut keys)?;
+    Ok(keys)
+}
+
+/// The rows that are shown, each with what it is put in order by.
+#[tactic(auto, using(crate::proofs::KeyLemmas::keyed_shown))]
+fn keyed_shown(
+    alloc: Global,
+    query: &Query,
+    columns: &Columns,
+    shown: Vec<Shown>,
+) -> Result<Vec<Keyed>, Memory>
+    ensures { IfOk result (λ all. all.items ≡ map (keyed_by_order (query_view query.now) columns.now) shown.items) }
+{
+    match all_values(alloc, query, columns, shown.as_slice()) {
+        Ok(keys) => {
+            let all = all_shown_keyed(alloc, keys, shown)?;
+            Ok(all)
+        }
+        Err(fault) => {
+            drop(shown);
+            Err(fault)
+        }
+    }
 }
 
 fn directions_of(alloc: Global, orders: &[Order]) -> Result<Vec<bool>, Memory>
@@ -179,29 +219,51 @@ fn directions_of(alloc: Global, orders: &[Order]) -> Result<Vec<bool>, Memory>
     Ok(directions)
 }
 
-fn rows_of(alloc: Global, keyed: &[Keyed]) -> Result<RowList, Memory>
-    ensures { IfOk result (λ rows. rows ≡ map (λ (k : KeyedRow). k.row) keyed.now) }
+/// Puts the rows in the order that ORDER BY asks for.
+fn sort_by_orders(alloc: Global, query: &Query, all: &mut Vec<Keyed>) -> Result<(), Memory>
+    ensures { OnOk result (all.new.items ≡ sorted (goes_by (directions_of (query_view query.now).orders) (λ (row : KeyedRow). row.keys)) all.old.items) }
 {
-    let mut rows = RowList::new(alloc);
-    for one in keyed {
-        push_copy(alloc, &mut rows, &one.row)?;
+    let directions = directions_of(alloc, query.orders.as_slice())?;
+    sort_directed(directions.as_slice(), all)?;
+    Ok(())
+}
+
+/// The rows that are shown, put in order.
+#[tactic(auto, using(crate::proofs::KeyLemmas::ordered_shown))]
+fn sorted_rows(
+    alloc: Global,
+    query: &Query,
+    columns: &Columns,
+    shown: Vec<Shown>,
+) -> Result<Vec<Row>, Memory>
+    ensures { IfOk result (λ rows. rows.items ≡ map (λ (s : ShownRow). s.row) (sorted (goes_before (query_view query.now) columns.now) shown.items)) }
+{
+    let mut all = keyed_shown(alloc, query, columns, shown)?;
+    match sort_by_orders(alloc, query, &mut all) {
+        Ok(()) => {
+            let rows = keyed_rows(alloc, all)?;
+            Ok(rows)
+        }
+        Err(fault) => {
+            drop(all);
+            Err(fault)
+        }
     }
-    Ok(rows)
 }
 
 /// The rows that are shown, in the order that ORDER BY asks for. What it does not tell apart stays as it stood.
-#[tactic(auto, using(crate::proofs::KeyLemmas::ordered_shown))]
 pub fn in_order(
     alloc: Global,
     query: &Query,
     columns: &Columns,
-    shown: &[Shown],
+    shown: Vec<Shown>,
 ) -> Result<RowList, Memory>
-    ensures { IfOk result (λ rows. rows ≡ map (λ (s : ShownRow). s.row) (sorted (goes_before (query_view query.now) columns.now) shown.now)) }
+    ensures { IfOk result (λ rows. rows ≡ map (λ (s : ShownRow). s.row) (sorted (goes_before (query_view query.now) columns.now) shown.items)) }
 {
-    let directions = directions_of(alloc, query.orders.as_slice())?;
-    let mut all = all_keyed(alloc, query, columns, shown)?;
-    sort_directed(directions.as_slice(), &mut all)?;
-    let rows = rows_of(alloc, all.as_slice())?;
-    Ok(rows)
+    if query.orders.as_slice().is_empty() {
+        let rows = shown_rows(alloc, shown)?;
+        return Ok(RowList::from_vec(rows));
+    }
+    let rows = sorted_rows(alloc, query, columns, shown)?;
+    Ok(RowList::from_vec(rows))
 }
