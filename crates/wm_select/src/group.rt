@@ -92,8 +92,29 @@ fn keyed_rows(
     }
 }
 
-/// Adds the rows of each stretch of the same keys, of which the first is begun.
+/// Adds the rows of each stretch of the same keys but the last, which is the group that is left.
 fn push_cut(
+    alloc: Global,
+    groups: &mut Vec<RowList>,
+    group: &mut RowList,
+    first: &Keyed,
+    others: &[Keyed],
+) -> Result<(), Memory>
+    ensures { OnOk result (groups.new.items ++ group.new ∷ [] ≡ groups.old.items ++ cut_from first.now group.old others.now) }
+{
+    let mut first = first;
+    for row in others {
+        if !has_keys_of(first, row) {
+            groups.push(mem::replace(group, RowList::new(alloc)))?;
+            first = row;
+        }
+        push_copy(alloc, group, &row.row)?;
+    }
+    Ok(())
+}
+
+/// Adds the rows of each stretch of the same keys, of which the first row is given.
+fn push_stretches(
     alloc: Global,
     groups: &mut Vec<RowList>,
     first: &Keyed,
@@ -101,16 +122,9 @@ fn push_cut(
 ) -> Result<(), Memory>
     ensures { OnOk result (groups.new.items ≡ groups.old.items ++ cut_from first.now (first.now.row ∷ []) others.now) }
 {
-    let mut first = first;
     let mut group = RowList::new(alloc);
     push_copy(alloc, &mut group, &first.row)?;
-    for row in others {
-        if !has_keys_of(first, row) {
-            groups.push(mem::replace(&mut group, RowList::new(alloc)))?;
-            first = row;
-        }
-        push_copy(alloc, &mut group, &row.row)?;
-    }
+    push_cut(alloc, groups, &mut group, first, others)?;
     groups.push(group)?;
     Ok(())
 }
@@ -121,7 +135,7 @@ fn cut(alloc: Global, rows: &[Keyed]) -> Result<Vec<RowList>, Memory>
 {
     let mut groups = Vec::new(alloc);
     if let [first, others @ ..] = rows {
-        push_cut(alloc, &mut groups, first, others)?;
+        push_stretches(alloc, &mut groups, first, others)?;
     }
     Ok(groups)
 }
