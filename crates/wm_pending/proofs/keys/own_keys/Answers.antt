@@ -12,8 +12,8 @@ loop-version-smaller c = (own_goes_on (parts_of c.args.image.now) c.args.space.n
 
 pub loop-version-preserved : goal.loop-version-preserved
 loop-version-preserved c = λ k out.
-    keys_more c.args.image.now c.args.space.now c.loop-version.number c.in-Some.version c.pieces_in.result.now k (contains place_order c.loop-version.keys (k.table, k.key))
-    (contains place_order c.add_keys.new.keys (k.table, k.key)) (own_held (parts_of c.args.image.now) c.args.space.now k) c.requires c.law_of_order.ensures c.in-Some.ensures c.pieces_in.ensures
+    keys_more c.args.image.now c.args.space.now c.loop-version.number c.in-Some.version c.as_slice.result.now k (contains place_order c.loop-version.keys (k.table, k.key))
+    (contains place_order c.add_keys.new.keys (k.table, k.key)) (own_held (parts_of c.args.image.now) c.args.space.now k) c.requires c.law_of_order.ensures c.in-Some.ensures (c.as_slice.ensures.value ∙ c.in_ok-pieces.ensures)
     (c.in_ok-add_keys.ensures (k.table, k.key)) (c.loop-version.invariant k) out
 
 pub returns : goal.returns
