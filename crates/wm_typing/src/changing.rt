@@ -112,12 +112,11 @@ fn is_key(table: &Table, name: &[u8]) -> bool
     ensures { result ≡ is_key table.now name.now }
 {
     let columns = table.columns.as_slice();
-    for place in table.key_columns.as_slice() {
-        if is_named_at(columns, usize::from(*place), name) {
-            return true;
-        }
-    }
-    false
+    table
+        .key_columns
+        .as_slice()
+        .iter()
+        .any(|place| is_named_at(columns, usize::from(*place), name))
 }
 
 /// The first key column that is set.
