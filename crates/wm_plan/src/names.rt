@@ -17,12 +17,7 @@ fn is_plain(byte: u8) -> bool
 fn are_plain(bytes: &[u8]) -> bool
     ensures { result ≡ list_all (λ b. nat_le 32 b && nat_le b 126) bytes.now }
 {
-    for byte in bytes {
-        if !is_plain(*byte) {
-            return false;
-        }
-    }
-    true
+    bytes.iter().all(|byte| is_plain(*byte))
 }
 
 /// Whether these are 1 to 30 plain bytes.
