@@ -28,12 +28,7 @@ fn has_name(name: &Name, column: &TableColumn) -> bool
 fn is_there(name: &Name, columns: &[TableColumn]) -> bool
     ensures { result ≡ list_any (named_so name.now) columns.now }
 {
-    for column in columns {
-        if has_name(name, column) {
-            return true;
-        }
-    }
-    false
+    columns.iter().any(|column| has_name(name, column))
 }
 
 /// Whether it is the name of the column of periods.

@@ -37,24 +37,16 @@ fn declares(name: &Name, item: &CreateItem) -> bool
 pub fn is_declared(name: &Name, items: &[CreateItem]) -> bool
     ensures { result ≡ list_any (declares_name name.now) items.now }
 {
-    for item in items {
-        if declares(name, item) {
-            return true;
-        }
-    }
-    false
+    items.iter().any(|item| declares(name, item))
 }
 
 /// Whether the name is one of these.
 fn is_among(name: &Name, names: &[Name]) -> bool
     ensures { result ≡ list_any (bytes_eq name.now) names.now }
 {
-    for other in names {
-        if name.as_bytes() == other.as_bytes() {
-            return true;
-        }
-    }
-    false
+    names
+        .iter()
+        .any(|other| name.as_bytes() == other.as_bytes())
 }
 
 /// The first name of the list that is no column of the table, or stands in the list already.

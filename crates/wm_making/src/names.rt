@@ -30,12 +30,7 @@ fn declares_short(item: &CreateItem) -> bool
 fn all_declare_short(items: &[CreateItem]) -> bool
     ensures { result ≡ list_all item_is_short items.now }
 {
-    for item in items {
-        if !declares_short(item) {
-            return false;
-        }
-    }
-    true
+    items.iter().all(|item| declares_short(item))
 }
 
 /// Whether it is how the name of a view ends.

@@ -19,12 +19,11 @@ const HEAVIEST_KEY: u64 = 200;
 fn is_key_at(table: &Table, place: usize) -> bool
     ensures { result ≡ key_at table.now place }
 {
-    for key in table.key_columns.as_slice() {
-        if place == usize::from(*key) {
-            return true;
-        }
-    }
-    false
+    table
+        .key_columns
+        .as_slice()
+        .iter()
+        .any(|key| place == usize::from(*key))
 }
 
 fn is_null(value: &Value) -> bool
