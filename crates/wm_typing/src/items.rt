@@ -38,12 +38,7 @@ fn are_named(column: &Column, one: &Col, other: &Col) -> bool
 fn name_one(columns: &[Column], one: &Col, other: &Col) -> bool
     ensures { result ≡ name_one columns.now one.now other.now }
 {
-    for column in columns {
-        if are_named(column, one, other) {
-            return true;
-        }
-    }
-    false
+    columns.iter().any(|column| are_named(column, one, other))
 }
 
 /// Whether both may mean the source of the column.
@@ -57,12 +52,9 @@ fn are_of_source(column: &Column, one: &Col, other: &Col) -> bool
 fn share_source(columns: &[Column], one: &Col, other: &Col) -> bool
     ensures { result ≡ share_source columns.now one.now other.now }
 {
-    for column in columns {
-        if are_of_source(column, one, other) {
-            return true;
-        }
-    }
-    false
+    columns
+        .iter()
+        .any(|column| are_of_source(column, one, other))
 }
 
 /// Whether the name is WM_VALID, and it is no column there.
@@ -91,12 +83,7 @@ pub fn is_same_col(columns: &[Column], one: &Col, other: &Col) -> bool
 fn is_among(columns: &[Column], col: &Col, cols: &[Col]) -> bool
     ensures { result ≡ is_among columns.now col.now cols.now }
 {
-    for other in cols {
-        if is_same_col(columns, col, other) {
-            return true;
-        }
-    }
-    false
+    cols.iter().any(|other| is_same_col(columns, col, other))
 }
 
 fn col_of_operand(operand: &Operand) -> Option<&Col>
@@ -180,12 +167,7 @@ fn is_whole(column: &Column, col: &Col) -> bool
 fn is_grouped_by(groups: &[Col], column: &Column) -> bool
     ensures { result ≡ is_grouped_by groups.now column.now }
 {
-    for col in groups {
-        if is_whole(column, col) {
-            return true;
-        }
-    }
-    false
+    groups.iter().any(|col| is_whole(column, col))
 }
 
 /// The first of the columns that is not grouped by.

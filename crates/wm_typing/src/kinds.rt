@@ -24,24 +24,14 @@ pub fn is_of_source(source: &Option<Name>, column: &Column) -> bool
 fn has_source(source: &Option<Name>, columns: &[Column]) -> bool
     ensures { result ≡ list_any (λ column. of_source source.now column) columns.now }
 {
-    for column in columns {
-        if is_of_source(source, column) {
-            return true;
-        }
-    }
-    false
+    columns.iter().any(|column| is_of_source(source, column))
 }
 
 /// Whether a column is the one that is named.
 fn has_column(source: &Option<Name>, name: &[u8], columns: &[Column]) -> bool
     ensures { result ≡ list_any (λ column. named source.now name.now column) columns.now }
 {
-    for column in columns {
-        if is_named(source, name, column) {
-            return true;
-        }
-    }
-    false
+    columns.iter().any(|column| is_named(source, name, column))
 }
 
 /// Whether WM_VALID is named, and there is a source that it may mean, but no such column.
