@@ -11,9 +11,9 @@
 #   make faults  lets each call on the store, the script and the answers go wrong in turn, and the power go at each moment
 #   make wrong   tries wrong bodies that the gate leaves out, since the proof of their crates is dear: each must be refused
 #   make edge    tries two runs at once, closed and full streams, full disks, scripts without an end, and paths and words that are none
-#   make bench   times 10,000 INSERT lines, a SELECT of them, SELECT and UPDATE lines by key, and a join of two tables of 1,000 rows;
-#                how much longer a SELECT and INSERT lines take behind 1,000 merges than behind one; a load of 100,000 lines,
-#                of which the last may take at most half as long again as the first; and figures beside their bounds
+#   make bench   times INSERT, SELECT and UPDATE lines and a join; how much longer lines take behind 1,000 merges than
+#                behind one; a load of 100,000 lines, of which the last, played over a store with the others, may take
+#                at most half as long again as the first; and figures beside their bounds
 
 RT ?= rt
 PYTHON ?= python3

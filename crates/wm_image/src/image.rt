@@ -36,7 +36,7 @@ use crate::laying::lay_key;
 use crate::load::{ImageFault, put_with_catalog, sorted};
 use crate::records::{apply_all, clear_all};
 use crate::shown::latest_of;
-use crate::tables::{after_last, catalog_of};
+use crate::tables::after_last;
 use std::alloc::Global;
 use std::collections::BTreeMap;
 use std::marker::Model;
@@ -49,7 +49,7 @@ use wm_index::keyed::{ids_of, ids_on, ids_since, last_key};
 use wm_index::kinds;
 use wm_index::records::{Kept, at, first, next_id};
 use wm_index::savepoints::{making_after, savepoint_in, savepoint_of_name};
-use wm_index::sets::ids_under;
+use wm_index::sets::ids_among;
 use wm_index::spaces::{number_after, space_of_name};
 use wm_index::tables::{id_named, table_of_number};
 use wm_index::versioned::{Versioned, ids_of_version, keys_on, versions_of_key};
@@ -406,7 +406,7 @@ impl Image {
     pub fn pieces_in(&self, alloc: Global, version: u64) -> Result<Vec<u64>, Memory>
         ensures { IfOk result (λ ids. ids.items ≡ ids_with (is_sought (PiecesIn version)) self.now) }
     {
-        let ids = ids_under(alloc, &self.index.pieces_in, &version)?;
+        let ids = ids_among(alloc, &self.index.pieces_in, &version)?;
         Ok(ids)
     }
 
@@ -415,7 +415,7 @@ impl Image {
     pub fn records_of(&self, alloc: Global, space: u32) -> Result<Vec<u64>, Memory>
         ensures { IfOk result (λ ids. ids.items ≡ ids_with (is_sought (OwnedBy space)) self.now) }
     {
-        let ids = ids_under(alloc, &self.index.owned, &space)?;
+        let ids = ids_among(alloc, &self.index.owned, &space)?;
         Ok(ids)
     }
 
@@ -431,7 +431,7 @@ impl Image {
     pub fn hists(&self, alloc: Global, space: u32, table: u16) -> Result<Vec<u64>, Memory>
         ensures { IfOk result (λ ids. AreByPosition (kind_at as_hist self.now ids.items) (logged_on space table (parts_of self.now).hists)) }
     {
-        let log = ids_under(alloc, &self.index.hists_on, &(space, table))?;
+        let log = ids_among(alloc, &self.index.hists_on, &(space, table))?;
         let ids = ids_by_position(alloc, &self.kept, log.as_slice())?;
         Ok(ids)
     }

@@ -100,6 +100,9 @@ pub fn lay_version(
 ) -> Result<Pieces, Memory>
     ensures { IfOk result (λ both. (t : ℕ) → t < END → held_at both t ≡ option_or (held_at upper t) (first_held (kind_at as_piece image.now ids.now) version t)) }
 {
+    if ids.is_empty() {
+        return Ok(upper);
+    }
     let lower = lay_halves(alloc, image, ids, version)?;
     let both = Pieces::over(alloc, &lower, &upper)?;
     Ok(both)

@@ -1,6 +1,6 @@
 //! Ids in sets under keys: for what may be many, of which any may go.
 
-ghost use Rattle.std.specs.Prelude.{◌≡◌, ℕ, if◌then◌else◌, IfOk, OnOk};
+ghost use Rattle.std.specs.Prelude.{◌≡◌, if◌then◌else◌, IfOk, OnOk};
 ghost use Rattle.std.specs.Ordering.{is_eq};
 ghost use Rattle.wm_index.specs.Sought.{ids_among, placed, without};
 
@@ -66,7 +66,7 @@ fn ids_in_set(alloc: Global, set: &BTreeSet<u64>) -> Result<Vec<u64>, Memory>
 }
 
 /// The ids of the set under a key, in order.
-pub fn ids_under<K: Ord>(alloc: Global, map: &IdSets<K>, key: &K) -> Result<Vec<u64>, Memory>
+pub fn ids_among<K: Ord>(alloc: Global, map: &IdSets<K>, key: &K) -> Result<Vec<u64>, Memory>
     ensures { IfOk result (λ ids. ids.items ≡ ids_among K.cmp map.now.entries key.now) }
 {
     match map.get(key) {
