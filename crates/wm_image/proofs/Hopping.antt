@@ -1,20 +1,16 @@
 -- Hops when a version comes or goes, and what they tell where the rules are kept.
-use Rattle.std.proofs.Common.{◌≡◌, ◌≢◌, ◌<◌, ◌≤◌, ◌==◌, ◌&&◌, ◌||◌, ℕ, Bool, true, false, not, cond, eqb, nat_lt, List, [], ◌∷◌, map, Option, Some, None, is_some, refl, sym, ap, ◌∙◌, subst, arith, ◌⊎◌, inl, inr}
+use Rattle.std.proofs.Common.{◌≡◌, ◌≢◌, ◌<◌, ◌≤◌, ◌==◌, ◌&&◌, ◌||◌, ◌-◌, ℕ, Bool, true, false, not, cond, eqb, nat_lt, List, [], ◌∷◌, map, get_or, Option, Some, None, is_some, refl, sym, ap, ◌∙◌, subst, arith, ◌⊎◌, inl, inr}
 use Rattle.std.proofs.lemmas.Bool.{cases_eq, cases_lt, eq-eqb, ne_eqb, lt-ltb, le-ltb}
-use Rattle.std.specs.BTreeMap.{is_at}
 use Rattle.std.specs.List.{AllByRecursion, cons_option, filter_map}
-use Rattle.std.specs.Map.{lookup}
 use Rattle.std.specs.Option.{option_map, option_and_then, IfSome, IsSome}
-use Rattle.std.specs.Ordering.{nat_cmp}
 use Rattle.wm_graph.specs.Parts.{as_version, parts_of, version_of}
-use Rattle.wm_image.specs.Hops.{Leads, IsHop, AreHops, AreWithout}
+use Rattle.wm_image.specs.Hops.{hop_at, is_near, Leads, IsHop, AreHops, AreWithout}
 use Rattle.wm_image.specs.declared.hops.Hop.{Hop}
 use Rattle.wm_image.specs.declared.hops.Hops.{Hops}
 use Rattle.wm_image.proofs.Descending.{is_on, passed}
 use Rattle.wm_image.proofs.Lists.{record_at-above, AllAbove-less}
 use Rattle.wm_image.proofs.Walking.{Ruled, path_goes_on}
 use Rattle.wm_index.proofs.Lists.{record_at-none, record_at-here, record_at-away}
-use Rattle.wm_index.proofs.TableLists.{is_at-number}
 use Rattle.wm_index.specs.Indexed.{listed}
 use Rattle.wm_spec.specs.Records.{record_at}
 use Rattle.wm_spec.specs.declared.record.Record.{Record}
@@ -25,6 +21,20 @@ use Rattle.wm_state.specs.Standing.{newest_first, node_of}
 use Rattle.wm_tree.proofs.Paths.{some_same, version_in-here, version_in-away}
 use Rattle.wm_tree.specs.Versions.{version_in, IsTree}
 use Rattle.wm_tree.specs.declared.version.Version.{Version as Node}
+
+-- ---- the list of hops
+
+pub before_first : (hops : Hops) (n : ℕ) → n < hops.first → hop_at hops n ≡ None
+before_first hops n less = ap (λ b. cond b None (get_or hops.by_number.items (n - hops.first) None)) (lt-ltb n hops.first less)
+
+either_way : (b : Bool) (o : Option Hop) → cond b o o ≡ o
+either_way true o = refl
+either_way false o = refl
+
+-- where the list is empty there is none
+pub none_at : (hops : Hops) → hops.by_number.items ≡ [] → (n : ℕ) → hop_at hops n ≡ None
+none_at hops empty n =
+    ap (λ (xs : List (Option Hop)). cond (nat_lt n hops.first) None (get_or xs (n - hops.first) None)) empty ∙ either_way (nat_lt n hops.first) None
 
 -- ---- versions when what stands under an id changes
 
@@ -272,23 +282,27 @@ hops_kept ss id becomes hops none without are = record {
   known = λ v h e. hop_set v h id becomes ss (without v h e) (if_none (option_and_then as_version becomes) (λ (x : Version). v < x.number) none) (are.known v h e);
 }
 
+no_hop : (o : Option Hop) (h : Hop) → o ≡ None → o ≡ Some h → ⊥
+no_hop o h none e = cc
+
 -- no hop is left
-pub hops_cleared : (ss : List Stored) (id : ℕ) (becomes : Option Record) (x : Version) (old new : Hops) → option_and_then as_version becomes ≡ Some x → new.by_version.entries ≡ []
+pub hops_cleared : (ss : List Stored) (id : ℕ) (becomes : Option Record) (x : Version) (old new : Hops) → option_and_then as_version becomes ≡ Some x → new.by_number.items ≡ []
     → old.greatest ≤ new.greatest → x.number ≤ new.greatest → AreHops (parts_of ss).versions old → AreHops (parts_of (set_at id becomes ss)).versions new
 unfolding parts_of
 hops_cleared ss id becomes x old new is empty more covered are = record {
   below = all_set (λ (v : Version). v.number ≤ new.greatest) id becomes ss (if_it (option_and_then as_version becomes) x (λ (v : Version). v.number ≤ new.greatest) is covered)
       (all_more (λ (v : Version). v.number ≤ old.greatest) (λ (v : Version). v.number ≤ new.greatest) (λ v less. omega (arith, less, more)) (versions_in ss) are.below);
-  known = λ v h e. absurd (no_hop (lookup (is_at (nat_cmp v)) new.by_version.entries) h (ap (lookup (is_at (nat_cmp v))) empty) e);
+  known = λ v h e. absurd (no_hop (hop_at new v) h (none_at new empty v) e);
 }
-  where
-    no_hop : (o : Option Hop) (h : Hop) → o ≡ None → o ≡ Some h → ⊥
-    no_hop o h none e = cc
+
+kept : (b : Bool) (o : Option Hop) (h : Hop) → cond b o None ≡ Some h → o ≡ Some h
+kept true o h e = e
+kept false o h e = cc
 
 -- a version comes above all others, and its hop with it
 pub hops_learned : (ss : List Stored) (id : ℕ) (becomes : Option Record) (x : Version) (hop : Hop) (old new : Hops) → option_and_then as_version becomes ≡ Some x
     → old.greatest < x.number → x.parent < x.number → hop.parent ≡ x.parent → (hop.far ≤ x.parent) × Leads (parts_of ss).versions hop.far x.parent
-    → ((q : ℕ) → lookup (is_at (nat_cmp q)) new.by_version.entries ≡ cond (is_at (nat_cmp x.number) q) (Some hop) (lookup (is_at (nat_cmp q)) old.by_version.entries))
+    → ((n : ℕ) → hop_at new n ≡ cond (x.number == n) (Some hop) (cond (is_near old x.number && nat_lt n x.number) (hop_at old n) None))
     → new.greatest ≡ x.number → AreWithout (option_and_then as_version (record_at ss id)) old → AreHops (parts_of ss).versions old → AreHops (parts_of (set_at id becomes ss)).versions new
 unfolding parts_of
 hops_learned ss id becomes x hop old new is above older parent leads updates top without are = record {
@@ -309,14 +323,15 @@ hops_learned ss id becomes x hop old new is above older parent leads updates top
           (all_more (λ (v : Version). v.number ≤ old.greatest) (λ (v : Version). v.number < x.number) (λ v less. omega (arith, less, above)) (versions_in ss) are.below) leads.1;
     }
 
-    by_number : (v : ℕ) (h : Hop) → (x.number ≡ v) ⊎ (x.number ≢ v) → lookup (is_at (nat_cmp v)) new.by_version.entries ≡ Some h → IsHop (versions_in (set_at id becomes ss)) v h
+    by_number : (v : ℕ) (h : Hop) → (x.number ≡ v) ⊎ (x.number ≢ v) → hop_at new v ≡ Some h → IsHop (versions_in (set_at id becomes ss)) v h
     by_number v h (inl here) e =
         let same : hop ≡ h = some_hop hop h
-        (sym (updates v ∙ ap (λ b. cond b (Some hop) (lookup (is_at (nat_cmp v)) old.by_version.entries)) (is_at-number x.number v ∙ eq-eqb x.number v here)) ∙ e) in
+        (sym (updates v ∙ ap (λ b. cond b (Some hop) (cond (is_near old x.number && nat_lt v x.number) (hop_at old v) None)) (eq-eqb x.number v here)) ∙ e) in
         subst (λ n. IsHop (versions_in (set_at id becomes ss)) n h) here (subst (IsHop (versions_in (set_at id becomes ss)) x.number) same own)
     by_number v h (inr away) e =
-        let before : lookup (is_at (nat_cmp v)) old.by_version.entries ≡ Some h =
-        sym (updates v ∙ ap (λ b. cond b (Some hop) (lookup (is_at (nat_cmp v)) old.by_version.entries)) (is_at-number x.number v ∙ ne_eqb x.number v away)) ∙ e in
+        let before : hop_at old v ≡ Some h =
+        kept (is_near old x.number && nat_lt v x.number) (hop_at old v) h
+        (sym (updates v ∙ ap (λ b. cond b (Some hop) (cond (is_near old x.number && nat_lt v x.number) (hop_at old v) None)) (ne_eqb x.number v away)) ∙ e) in
         let under = hop_below (versions_in ss) old v h are (are.known v h before) in
         hop_set v h id becomes ss (without v h before) (if_it (option_and_then as_version becomes) x (λ (y : Version). v < y.number) is (omega (arith, under, above))) (are.known v h before)
 
@@ -418,9 +433,14 @@ skips vs far v sought r leads there low =
             (ap (λ b. alike b (is_on vs sought far)) (sym (passed vs w sought x r is (omega (arith, low, from))) ∙ up) ∙ alike_itself (is_on vs sought far))
 
 -- the hop that was looked up
-pub hop_told : (vs : List Version) (hops : Hops) (v : ℕ) (o : Option Hop) → o ≡ lookup (is_at (nat_cmp v)) hops.by_version.entries → AreHops vs hops → IfSome o (IsHop vs v)
+pub hop_told : (vs : List Version) (hops : Hops) (v : ℕ) (o : Option Hop) → o ≡ hop_at hops v → AreHops vs hops → IfSome o (IsHop vs v)
 hop_told vs hops v None e are = tt
 hop_told vs hops v (Some h) e are = are.known v h (sym e)
+
+-- a version with a hop is there
+pub there_by_hop : (vs : List Version) (v : ℕ) (o : Option Hop) → IfSome o (IsHop vs v) → is_some o ≡ true → is_some (version_of vs v) ≡ true
+there_by_hop vs v None is some = cc
+there_by_hop vs v (Some h) is some = ap (λ (o : Option Version). is_some o) (owner vs v h is).there
 
 -- a step to the end of a hop, and one to the parent
 pub hopped : (vs : List Version) (v sought : ℕ) (h : Hop) → Ruled vs → IsHop vs v h → sought ≤ h.far → is_on vs sought h.far ≡ is_on vs sought v

@@ -43,11 +43,11 @@ pub fn descend(image: &Image, from: u64, version: u64) -> u64
     number
 }
 
-/// Whether a version stands on the path of one that is not newer: it is that one, and is there.
+/// Whether a version stands on the path of one that is not newer: it is that one, and is there, as each with a hop is.
 pub fn is_reached(image: &Image, at: u64, version: u64) -> bool
     requires rules { keep_rules (parts_of image.now) ≡ true }
     requires down { at ≤ version }
     ensures { result ≡ list_any (nat_eq version) (path_in (newest_first (parts_of image.now).versions) at) }
 {
-    version == at && image.version(at).is_some()
+    version == at && (image.hop(at).is_some() || image.version(at).is_some())
 }

@@ -1,12 +1,9 @@
 //! Hops: long steps down the paths of versions, so that a path of any length is gone down in few steps.
 
-ghost use Rattle.std.specs.Prelude.{◌≡◌, ◌≤◌, ℕ, true, List, [], Option, OnOk};
-ghost use Rattle.std.specs.BTreeMap.{is_at};
-ghost use Rattle.std.specs.Map.{lookup};
+ghost use Rattle.std.specs.Prelude.{◌≡◌, ◌≤◌, ◌==◌, ◌&&◌, ℕ, true, nat_lt, if◌then◌else◌, List, [], Option, None, Some, OnOk};
 ghost use Rattle.std.specs.Option.{option_and_then};
-ghost use Rattle.std.specs.Ordering.{nat_cmp};
 ghost use Rattle.wm_graph.specs.Parts.{as_version, parts_of};
-ghost use Rattle.wm_image.specs.Hops.{AreHops, AreWithout, Leads};
+ghost use Rattle.wm_image.specs.Hops.{hop_at, is_near, AreHops, AreWithout, Leads};
 ghost use Rattle.wm_spec.specs.Records.{record_at};
 ghost use Rattle.wm_spec.specs.declared.record.Record.{Record};
 ghost use Rattle.wm_spec.specs.declared.record.stored.Stored.{Stored};
@@ -14,7 +11,6 @@ ghost use Rattle.wm_spec.specs.declared.record.version.Version.{Version as OneVe
 ghost use Rattle.wm_state.specs.ById.{Ascend, set_at};
 
 use std::alloc::Global;
-use std::collections::BTreeMap;
 use wm_base::Memory;
 use wm_spec::record::Version;
 
@@ -27,11 +23,16 @@ pub struct Hop {
     steps: u64,
 }
 
-/// The hops of versions, by number, and a number that no version is above. A version without a hop is walked by its
-/// parent.
+/// The most places in a row that are filled for numbers without a version: 2 MB. Numbers may lie further apart, where
+/// many versions went or a store is damaged, and what they fill must not use up the memory.
+const WIDEST_GAP: u64 = 65_536;
+
+/// The hops of versions, a place for each number from the first on, and a number that no version is above. A version
+/// without a hop is walked by its parent.
 #[derive(Drop)]
 pub struct Hops {
-    by_version: BTreeMap<u64, Hop>,
+    by_number: Vec<Option<Hop>>,
+    first: u64,
     greatest: u64,
 }
 
@@ -41,16 +42,24 @@ impl Hops {
         ensures { AreHops [] result }
     {
         Hops {
-            by_version: BTreeMap::new(alloc),
+            by_number: Vec::new(alloc),
+            first: 0,
             greatest: 0,
         }
     }
 
     /// The hop of a version, where it has one.
     pub fn hop(&self, number: u64) -> Option<Hop>
-        ensures { result ≡ lookup (is_at (nat_cmp number)) self.now.by_version.entries }
+        ensures { result ≡ hop_at self.now number }
     {
-        self.by_version.get(&number).copied()
+        if number < self.first {
+            return None;
+        }
+        let place = (number - self.first) as usize;
+        match self.by_number.as_slice().get(place) {
+            Some(hop) => *hop,
+            None => None,
+        }
     }
 
     /// The hop of a version that comes under a parent: past the hop of the parent and the one behind it where these are
@@ -83,9 +92,50 @@ impl Hops {
         ensures without { AreWithout goes self.new }
         ensures rest { (vs : List OneVersion) → AreHops vs self.old → AreHops vs self.new }
     {
-        if let Some(version) = goes {
-            self.by_version.remove(&version.number);
+        let Some(version) = goes else {
+            return;
+        };
+        if version.number < self.first {
+            return;
         }
+        let place = (version.number - self.first) as usize;
+        if place < self.by_number.len() {
+            self.by_number[place] = None;
+        }
+    }
+
+    /// Whether the list of hops goes to a number, or ends no wider a gap below it than may be filled.
+    fn is_near(&self, number: u64) -> bool
+        ensures { result ≡ is_near self.now number }
+    {
+        if number < self.first {
+            return false;
+        }
+        (number - self.first).saturating_sub(self.by_number.len() as u64) <= WIDEST_GAP
+    }
+
+    /// Begins anew at a number where that is not near: the versions before it have no hops then.
+    fn come_near(&mut self, number: u64)
+        ensures first { self.new.first ≤ number }
+        ensures greatest { self.new.greatest ≡ self.old.greatest }
+        ensures hops { (n : ℕ) → hop_at self.new n ≡ (if is_near self.old number then hop_at self.old n else None) }
+    {
+        if self.is_near(number) {
+            return;
+        }
+        self.by_number.clear();
+        self.first = number;
+    }
+
+    /// Adds the hop of a version that comes above all others: behind its number none is left.
+    fn put(&mut self, number: u64, hop: Hop) -> Result<(), Memory>
+        ensures greatest { self.new.greatest ≡ self.old.greatest }
+        ensures hops { OnOk result ((n : ℕ) → hop_at self.new n ≡ (if number == n then Some hop else if is_near self.old number && nat_lt n number then hop_at self.old n else None)) }
+    {
+        self.come_near(number);
+        self.by_number.resize((number - self.first) as usize, None)?;
+        self.by_number.push(Some(hop))?;
+        Ok(())
     }
 
     /// Adds the hop of a version that comes. Where its number is not above all others, or its parent's is not below it,
@@ -97,12 +147,12 @@ impl Hops {
             return Ok(());
         };
         if version.number <= self.greatest || version.number <= version.parent {
-            self.by_version.clear();
+            self.by_number.clear();
             self.greatest = self.greatest.max(version.number);
             return Ok(());
         }
         let hop = self.under(version.parent);
-        self.by_version.insert(version.number, hop)?;
+        self.put(version.number, hop)?;
         self.greatest = version.number;
         Ok(())
     }

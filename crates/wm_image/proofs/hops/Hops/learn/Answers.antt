@@ -8,9 +8,9 @@ returns-in_default c = λ ss id becomes comes without are. hops_kept ss id becom
 
 pub returns-then-version-self : goal.returns-then-version-self
 returns-then-version-self c = λ ss id becomes comes without are.
-    hops_cleared ss id becomes c.in-Some.version c.args.self.now _ (sym comes ∙ c.in-Some.is) c.clear.ensures.empty (omega (arith, c.max-self.ensures)) (omega (arith, c.max-self.ensures)) are
+    hops_cleared ss id becomes c.in-Some.version c.args.self.now _ (sym comes ∙ c.in-Some.is) c.clear.ensures.items (omega (arith, c.max-self.ensures)) (omega (arith, c.max-self.ensures)) are
 
 pub returns : goal.returns
 returns c = λ ss id becomes comes without are.
     hops_learned ss id becomes c.in-Some.version c.under-hop.result c.args.self.now _ (sym comes ∙ c.in-Some.is) (omega (arith, c.if-version-self.false)) (omega (arith, c.if-version.false))
-    c.under-hop.ensures.parent (c.under-hop.ensures.leads (parts_of ss).versions are) c.in_ok-insert.ensures.updates.0 refl without are
+    c.under-hop.ensures.parent (c.under-hop.ensures.leads (parts_of ss).versions are) c.in_ok-put.ensures.hops refl without are
