@@ -14,3 +14,4 @@ pub mod Replying
 pub mod Sounding
 pub mod Causes
 pub mod NetLines
+pub mod Pages

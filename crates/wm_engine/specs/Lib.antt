@@ -5,3 +5,4 @@ pub mod Cause
 pub mod ForkLines
 pub mod NetLines
 pub mod Kinds
+pub mod Pages

@@ -1,12 +1,14 @@
 //! What a line changes, committed to the store.
-ghost use Rattle.std.specs.Prelude.{◌≡◌, ◌≤◌, ◌⊎◌, ℕ, List, [], OnOk, IsErrOf};
+ghost use Rattle.std.specs.Prelude.{◌≡◌, ◌≤◌, ◌+◌, ◌*◌, ◌⊎◌, ℕ, List, [], length, OnOk, IsErrOf};
 ghost use Rattle.wm_engine.specs.Cause.{LineCause};
+ghost use Rattle.wm_engine.specs.Pages.{ChangesPages};
 ghost use Rattle.wm_engine.specs.Working.{HoldsSorted, KeepsOver};
 ghost use Rattle.wm_engine.specs.declared.fault.LineFault.TheVariants as faults;
 ghost use Rattle.wm_spec.specs.Records.{AreChanges};
 ghost use Rattle.wm_spec.specs.declared.record.stored.Stored.{Stored};
 ghost use Rattle.wm_state.specs.ById.{applied};
 ghost use Rattle.wm_station.specs.Cause.{Rises};
+ghost use Rattle.wm_station.specs.History.{now};
 ghost use Rattle.wm_station.specs.Moments.{Ended};
 ghost use Rattle.wm_store.specs.Spelled.{FitPages};
 ghost use Rattle.wm_store.specs.Stores.{IsStoreOf};
@@ -32,6 +34,8 @@ pub fn commit<P: Station>(
     ensures any_moment { P.tells → (rs : List Stored) → KeepsOver store.old rs (P.history station.old) → Ended (P.history station.old) (P.history station.new) (λ file. HoldsSorted file rs ⊎ HoldsSorted file (applied batch.now.changes rs)) }
     // Where nothing changes the file is not touched.
     ensures nothing { P.tells → batch.now.changes ≡ [] → P.history station.new ≡ P.history station.old }
+    // At most two pages for each change and two more are other than they were.
+    ensures few { P.tells → OnOk result (ChangesPages store.new (2 * length batch.now.changes + 2) (now (P.history station.old)) (now (P.history station.new))) }
     ensures same_store { batch.now.changes ≡ [] → OnOk result (store.new ≡ store.old) }
     ensures later { P.disk_faults station.old ≤ P.disk_faults station.new }
     ensures disk { IsErrOf result faults.Disk → Rises (P.disk_faults station.old) (P.disk_faults station.new) }

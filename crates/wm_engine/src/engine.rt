@@ -7,6 +7,7 @@ ghost use Rattle.wm_engine.specs.Cause.{LineCause};
 ghost use Rattle.wm_engine.specs.ForkLines.{is_fork};
 ghost use Rattle.wm_engine.specs.NetLines.{nets_into};
 ghost use Rattle.wm_engine.specs.Kinds.{kind_of};
+ghost use Rattle.wm_engine.specs.Pages.{ChangesPages};
 ghost use Rattle.wm_plan.specs.Idle.{is_idle};
 ghost use Rattle.wm_grammar.specs.Parsed.{parsed};
 ghost use Rattle.wm_engine.specs.Working.{FileStands, HoldsSorted, IsSound, LeavesAlone, StandsFor, WorksOver, Tells};
@@ -159,6 +160,8 @@ impl Engine {
         ensures rules { OnOk result (keep_rules (parts_of self.new.records) ≡ true) }
         // A line that makes a savepoint or a workspace changes few records, and none of a row, a piece, a touch or an entry of a log.
         ensures few { is_fork (parsed line.now) ≡ true → OnOk result (ChangesFew self.old.records self.new.records) }
+        // Such a line leaves the pages of the file as they were but for 14 at most, and page 0.
+        ensures few_pages { P.tells → is_fork (parsed line.now) ≡ true → OnOk result (ChangesPages self.new.store 14 (now (P.history station.old)) (now (P.history station.new))) }
         // A refresh, or a merge that removes nothing, changes eight records at most, eight for each stretch of what is own or pending, and each mark
         // of the workspace.
         ensures net { (workspace : List ℕ) → nets_into (parsed line.now) ≡ Some workspace → (s : State) → StandsFor self.old s → OnOk result (ChangesAtMost (8 + 8 * stretch_count s workspace + mark_count self.old.records workspace) self.old.records self.new.records) }

@@ -1,4 +1,4 @@
-use Rattle.std.proofs.Common.{sym, subst, ◌∙◌}
+use Rattle.std.proofs.Common.{[], refl, sym, subst, ◌∙◌, arith}
 use Rattle.std.proofs.lemmas.Result.{err_from_is_err_and}
 use Rattle.wm_engine.specs.Working.{KeepsOver}
 use Rattle.wm_state.specs.ById.{applied}
@@ -41,3 +41,6 @@ pub returns-in_err-commit-clause-cause : goal.returns-in_err-commit-clause-cause
 returns-in_err-commit-clause-cause g c =
     let p = err_from_is_err_and c.from_residual.result c.from_residual.ensures.1 in
     rw (p.1, p.2) (line_cause (g.P.Station.disk_faults c.args.station.now) (g.P.Station.disk_faults c.commit.new.station) c.in_err-commit.field-0.0 c.in_err-commit.ensures.cause)
+
+pub returns-then-is_empty-clause-few : goal.returns-then-is_empty-clause-few
+returns-then-is_empty-clause-few g c = λ told. record { rewritten = []; few = omega arith; pages = λ p from till. refl }

@@ -2,8 +2,10 @@ use Rattle.std.proofs.Common.{sym, subst, ◌∙◌, List}
 use Rattle.wm_engine.specs.Working.{KeepsOver}
 use Rattle.wm_engine.proofs.DraftsFit.{drafts_fit}
 use Rattle.wm_engine.proofs.Keeping.{begun_drafted, drafted_as, ended_drafted}
+use Rattle.wm_engine.proofs.Pages.{fork_pages}
 use Rattle.wm_prices.specs.Prices.{Spends}
 use Rattle.wm_spec.specs.declared.record.stored.Stored.{Stored}
+use Rattle.wm_station.specs.History.{now}
 use Rattle.wm_engine.proofs.keep.write.Goals as goal
 
 pub returns-in_err-batch-clause-any_moment : goal.returns-in_err-batch-clause-any_moment
@@ -54,3 +56,9 @@ returns-in_ok-apply-in-Ok-clause-same_store g c = λ none. c.in-Ok.ensures.same_
 pub returns-in_ok-apply-in-Ok-clause-spends : goal.returns-in_ok-apply-in-Ok-clause-spends
 returns-in_ok-apply-in-Ok-clause-spends g c =
     subst (λ (ss : List Stored). Spends c.args.moment c.args.image.now c.args.edits.items ss) (sym (c.in_ok-apply-in-Ok.ensures.ok ∙ c.in_ok-batch.ensures.rest)) c.in_ok-batch.ensures.spends
+
+-- ---- savepoints and workspaces
+
+pub returns-in_ok-apply-in-Ok-clause-few : goal.returns-in_ok-apply-in-Ok-clause-few
+returns-in_ok-apply-in-Ok-clause-few g c = λ told forks.
+    fork_pages c.commit.new.store c.args.image.now c.args.moment c.args.edits.items c.in_ok-batch.batch.changes (now (g.P.Station.history c.args.station.now)) (now (g.P.Station.history c.commit.new.station)) c.in_ok-batch.ensures.drafts forks (c.in-Ok.ensures.few told)
