@@ -123,12 +123,16 @@ impl Engine {
         let image = match Image::load(alloc, records) {
             Ok(image) => image,
             Err(ImageFault::Graph) => {
+                drop(store);
                 return Err(OpenFault::Damaged {
                     page: 0,
                     kind: Damage::Graph,
                 });
             }
-            Err(ImageFault::Memory) => return Err(OpenFault::Memory),
+            Err(ImageFault::Memory) => {
+                drop(store);
+                return Err(OpenFault::Memory);
+            }
         };
         let moment = moment.seconds().max(image.counters().last_moment);
         Ok(Engine {
