@@ -15,12 +15,7 @@ use wm_image::Image;
 use wm_spec::record::{Changes, Record};
 
 /// Puts the id of a record behind others, and behind it those of the pieces of a version.
-fn push_with_pieces(
-    alloc: Global,
-    image: &Image,
-    ids: &mut Vec<u64>,
-    id: u64,
-) -> Result<(), Memory>
+fn push_with_pieces(alloc: Global, image: &Image, ids: &mut Vec<u64>, id: u64) -> Result<(), Memory>
     ensures { OnOk result (ids.new.items ≡ ids.old.items ++ with_pieces image.now id) }
 {
     ids.push(id)?;
