@@ -199,6 +199,7 @@ impl Engine {
             line,
         ) {
             Ok(kept) => {
+                // What was in its place, which is nothing, is let go by one call.
                 drop(self.image.replace(image));
                 self.moment = kept.moment;
                 Ok(kept.reply)
