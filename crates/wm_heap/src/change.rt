@@ -182,6 +182,7 @@ impl Heap {
         if all {
             return Ok(());
         }
+        // What drops a record is all done by now, so that something is left to be put.
         let Some(bytes) = &blob.bytes else {
             return Ok(());
         };

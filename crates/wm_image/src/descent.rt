@@ -29,8 +29,8 @@ fn step_down(image: &Image, number: u64, sought: u64) -> u64
     }
 }
 
-/// The way down the path of a version to where it is not newer than another: that other itself where it stands on the
-/// path. What is older still stands on the path from there on, so the way to it can go on from there.
+/// A version down the path of one, and not newer than another: that other itself where it stands on the path, and 0
+/// where the path ends before. What is older still stands on the path from there, so the way to it can go on there.
 pub fn descend(image: &Image, from: u64, version: u64) -> u64
     requires { keep_rules (parts_of image.now) ≡ true }
     ensures down { result ≤ version }

@@ -410,8 +410,7 @@ impl Image {
         Ok(ids)
     }
 
-    /// The ids of the records of a workspace, in order: itself, its versions, savepoints, touches, locks, entries of
-    /// its log, marks and turns.
+    /// The ids of all records that are a workspace's own, in order: of the workspace itself too.
     pub fn records_of(&self, alloc: Global, space: u32) -> Result<Vec<u64>, Memory>
         ensures { IfOk result (λ ids. ids.items ≡ ids_with (is_sought (OwnedBy space)) self.now) }
     {
