@@ -1,0 +1,5 @@
+use Rattle.wm_chunks.proofs.Joining.{all_ordered}
+use Rattle.wm_chunks.proofs.number_map.NumberMap.insert.Goals as goal
+
+pub returns-clause-ordered : goal.returns-clause-ordered
+returns-clause-ordered g c = all_ordered c.put.new.chunks.entries c.put.ensures.chunks
