@@ -1,10 +1,10 @@
 -- The ids that an index has ascend.
 use Rattle.std.proofs.Common.{◌≡◌, ℕ, Bool, true, false, cond, List, [], ◌∷◌, None, sym, ap, ◌∙◌, subst}
-use Rattle.std.specs.BTreeMap.{BTreeMap}
 use Rattle.std.specs.List.{AllByRecursion}
 use Rattle.std.specs.List.Sorted.{IsStrictlySortedBy}
 use Rattle.std.specs.Ordering.{nat_cmp}
 use Rattle.std.specs.declared.cmp.Ordering.TheVariants.{Less}
+use Rattle.wm_chunks.specs.Numbers.{Numbers}
 use Rattle.wm_spec.specs.Records.{record_at}
 use Rattle.wm_spec.specs.declared.record.Record.{Record}
 use Rattle.wm_spec.specs.declared.record.stored.Stored.{Stored}
@@ -35,11 +35,11 @@ ascending-with p (s ∷ ss) sorted = by_test (p s.record) (above-with p s.id ss 
     by_test true above rest = (above, rest)
     by_test false above rest = rest
 
-pub ids_ascend : (kept : BTreeMap ℕ Record) (x : Index) → IsIndexed kept x → IdsAscend x
+pub ids_ascend : (kept : Numbers Record) (x : Index) → IsIndexed kept x → IdsAscend x
 ids_ascend kept x is q = subst (IsStrictlySortedBy nat_cmp) (sym (is.told q)) (ascending-with (is_sought q) (listed kept.entries) (Ascend-listed kept.entries is.ordered))
 
 -- so they do when the record of an id went
-pub ids_ascend_less : (kept : BTreeMap ℕ Record) (x new : Index) (id : ℕ) → IsIndexed kept x → ((q : Sought) → ids_at new q ≡ ids_less (is_sought q) id (record_at (listed kept.entries) id) (ids_at x q)) → IdsAscend new
+pub ids_ascend_less : (kept : Numbers Record) (x new : Index) (id : ℕ) → IsIndexed kept x → ((q : Sought) → ids_at new q ≡ ids_less (is_sought q) id (record_at (listed kept.entries) id) (ids_at x q)) → IdsAscend new
 ids_ascend_less kept x new id is less q =
     subst (IsStrictlySortedBy nat_cmp)
     (ids_with-set (is_sought q) id None (listed kept.entries) sorted

@@ -1,11 +1,11 @@
 -- The newest version of a workspace, told by the last number under it.
 use Rattle.std.proofs.Common.{◌≡◌, ℕ, ◌<◌, ◌≤◌, ◌==◌, Bool, true, false, cond, ◌&&◌, ◌||◌, max, List, [], ◌∷◌, Option, Some, None, unwrap_or, refl, sym, ap, ◌∙◌, arith, ◌⊎◌, inl, inr}
 use Rattle.std.proofs.lemmas.Bool.{cases_lt, eq-eqb, eqb-true}
-use Rattle.std.specs.BTreeMap.{BTreeMap}
 use Rattle.std.specs.List.{filter, filter_map, list_any}
 use Rattle.std.specs.List.Sorted.{IsStrictlySortedBy}
 use Rattle.std.specs.Map.{keys_of}
 use Rattle.std.specs.Ordering.{nat_cmp}
+use Rattle.wm_chunks.specs.Numbers.{Numbers}
 use Rattle.wm_graph.specs.Parts.{parts_of, as_version}
 use Rattle.wm_spec.specs.declared.record.Record.{Record}
 use Rattle.wm_spec.specs.declared.record.Record.TheVariants as records
@@ -86,7 +86,7 @@ last_greatest vs (Some k) last = by_greatest (greatest_there vs)
     by_greatest (inr zero) = let ge = most in omega (arith, zero, ge)
 
 -- the last number under a workspace is its newest version
-pub latest_told : (kept : BTreeMap ℕ Record) (x : Index) → IsIndexed kept x → (s : ℕ) → IsStrictlySortedBy nat_cmp (keys_of (keyed_at x.versions_in.entries s))
+pub latest_told : (kept : Numbers Record) (x : Index) → IsIndexed kept x → (s : ℕ) → IsStrictlySortedBy nat_cmp (keys_of (keyed_at x.versions_in.entries s))
     → unwrap_or (last_used (keyed_at x.versions_in.entries s)) 0 ≡ latest (parts_of (listed kept.entries)) s
 unfolding parts_of
 latest_told kept x is s sorted =

@@ -1,11 +1,11 @@
 -- Tables found by name.
 use Rattle.std.proofs.Common.{◌≡◌, ℕ, Bool, true, false, cond, not, ◌==◌, nat_lt, nat_le, List, [], ◌∷◌, length, Option, Some, None, Bor, is_some, refl, sym, ap, ◌∙◌}
 use Rattle.std.proofs.lemmas.Slice.Eq.{bytes_eq-Decides}
-use Rattle.std.specs.BTreeMap.{BTreeMap}
 use Rattle.std.specs.List.{find, list_any, list_all}
 use Rattle.std.specs.Option.{option_copied}
 use Rattle.std.specs.Str.{bytes_eq}
 use Rattle.wm_catalog.specs.Catalog.{same_name}
+use Rattle.wm_chunks.specs.Numbers.{Numbers}
 use Rattle.wm_graph.specs.Parts.{Parts, parts_of, as_table}
 use Rattle.wm_graph.specs.Rules.{keep_rules, differ, is_table}
 use Rattle.wm_spec.specs.declared.record.Record.{Record}
@@ -86,11 +86,11 @@ tables_test : Tests as_table (λ t. true) (is_sought Tables)
 tables_test (records.Table t) = refl
 tables_test _ = refl
 
-pub tables_told : (kept : BTreeMap ℕ Record) (x : Index) → IsIndexed kept x → kind_at as_table (listed kept.entries) (ids_at x Tables) ≡ (parts_of (listed kept.entries)).tables
+pub tables_told : (kept : Numbers Record) (x : Index) → IsIndexed kept x → kind_at as_table (listed kept.entries) (ids_at x Tables) ≡ (parts_of (listed kept.entries)).tables
 unfolding parts_of
 tables_told kept x is = sought_kind as_table (λ t. true) Tables tables_test kept x is ∙ filter_all (parts_of (listed kept.entries)).tables
 
-pub named_told : (kept : BTreeMap ℕ Record) (x : Index) → IsIndexed kept x → keep_rules (parts_of (listed kept.entries)) ≡ true → (name : List ℕ)
+pub named_told : (kept : Numbers Record) (x : Index) → IsIndexed kept x → keep_rules (parts_of (listed kept.entries)) ≡ true → (name : List ℕ)
     → find (has_name name) (kind_at as_table (listed kept.entries) (ids_at x Tables)) ≡ find (has_name name) (by_number (parts_of (listed kept.entries)).tables)
 named_told kept x is rules name =
     ap (find (has_name name)) (tables_told kept x is)

@@ -1,11 +1,12 @@
 -- The pieces in an index, when what stands under an id is changed.
 use Rattle.std.proofs.Common.{◌≡◌, ℕ, ◌+◌, ◌==◌, ◌&&◌, ◌||◌, Bool, true, false, cond, List, [], ◌∷◌, Option, Some, None, refl, sym, ap, subst, ◌∙◌, arith}
 use Rattle.std.proofs.lemmas.Bool.{eq-eqb, eqb-true}
-use Rattle.std.specs.BTreeMap.{BTreeMap, IsOrdered}
+use Rattle.std.specs.BTreeMap.{IsOrdered}
 use Rattle.std.specs.List.{AllByRecursion}
 use Rattle.std.specs.Option.{option_and_then, option_map_or}
 use Rattle.std.specs.Ordering.{is_eq, nat_cmp}
 use Rattle.wm_base.specs.Key.{key_order}
+use Rattle.wm_chunks.specs.Numbers.{Numbers}
 use Rattle.wm_graph.specs.Parts.{as_piece}
 use Rattle.wm_image.proofs.Listed.{Ascend-listed}
 use Rattle.wm_image.proofs.Lists.{ids_with-set, ids-sorted}
@@ -104,7 +105,7 @@ apart_key id b ss rs (e ∷ es) same up none all =
 -- ---- what stands under an id is changed
 
 -- once its record went no version has the id
-gone_id : (kept : BTreeMap ℕ Record) (x new : Index) (id : ℕ) → IsIndexed kept x → ((q : Sought) → ids_at new q ≡ ids_less (is_sought q) id (record_at (listed kept.entries) id) (ids_at x q))
+gone_id : (kept : Numbers Record) (x new : Index) (id : ℕ) → IsIndexed kept x → ((q : Sought) → ids_at new q ≡ ids_less (is_sought q) id (record_at (listed kept.entries) id) (ids_at x q))
     → (q : Sought) → has_id id (ids_at new q) ≡ false
 gone_id kept x new id is less q =
     ap (has_id id)
@@ -119,7 +120,7 @@ gone_id kept x new id is less q =
     nothing = None
 
 -- the periods hold the cells of the records as they are then
-pub pieces_spanned : (kept : BTreeMap ℕ Record) (x mid next : Index) (id : ℕ) (becomes : Option Record) (rs : List Stored) → IsIndexed kept x
+pub pieces_spanned : (kept : Numbers Record) (x mid next : Index) (id : ℕ) (becomes : Option Record) (rs : List Stored) → IsIndexed kept x
     → ((q : Sought) → ids_at mid q ≡ ids_less (is_sought q) id (record_at (listed kept.entries) id) (ids_at x q))
     → LosesAny x.pieces.entries mid.pieces.entries id (record_at (listed kept.entries) id) → GainsAny mid.pieces.entries next.pieces.entries id becomes → rs ≡ set_at id becomes (listed kept.entries)
     → AllSpanned rs next.pieces.entries
@@ -139,7 +140,7 @@ pieces_spanned kept x mid next id becomes rs is told less more set =
 
 -- ---- no records
 
-pub none_indexed : (kept : BTreeMap ℕ Record) (x : Index) → IsOrdered nat_cmp kept → kept.entries ≡ [] → ((q : Sought) → ids_at x q ≡ []) → x.pieces.entries ≡ [] → IsIndexed kept x
+pub none_indexed : (kept : Numbers Record) (x : Index) → IsOrdered nat_cmp kept → kept.entries ≡ [] → ((q : Sought) → ids_at x q ≡ []) → x.pieces.entries ≡ [] → IsIndexed kept x
 none_indexed kept x ordered empty none pieces = record {
   ordered = ordered;
   told = λ q. none q ∙ ap (λ es. ids_with (is_sought q) (listed es)) (sym empty);

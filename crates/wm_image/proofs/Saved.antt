@@ -2,12 +2,13 @@
 use Rattle.std.proofs.Common.{◌≡◌, ℕ, ◌<◌, ◌≤◌, ◌+◌, ◌^◌, ◌==◌, nat_lt, nat_le, Bool, true, false, cond, not, ◌&&◌, ◌||◌, List, [], ◌∷◌, length, Option, Some, None, refl, sym, ap, ◌∙◌, subst, arith}
 use Rattle.std.proofs.lemmas.Bool.{eq-eqb, eqb-true}
 use Rattle.std.proofs.lemmas.Slice.Eq.{bytes_eq-Decides}
-use Rattle.std.specs.BTreeMap.{BTreeMap, IsOrdered}
+use Rattle.std.specs.BTreeMap.{IsOrdered}
 use Rattle.std.specs.List.{count_by, filter, find, list_all, list_any}
 use Rattle.std.specs.Option.{option_map_or}
 use Rattle.std.specs.Ordering.{nat_cmp}
 use Rattle.std.specs.Str.{bytes_eq}
 use Rattle.wm_base.specs.declared.instant.TheConstants.{END}
+use Rattle.wm_chunks.specs.Numbers.{Numbers}
 use Rattle.wm_graph.specs.Parts.{Parts, parts_of, as_savepoint, space_of, version_of}
 use Rattle.wm_graph.specs.Rules.{keep_rules, are_counters, are_savepoints, differ, has_few, is_savepoint, is_saved_in, is_short, same_savepoint}
 use Rattle.wm_spec.specs.declared.record.Record.TheVariants as records
@@ -136,7 +137,7 @@ ruled_saved p work e =
 
 -- ---- what an index tells
 
-pub named_told : (kept : BTreeMap ℕ Record) (x : Index) → IsIndexed kept x → keep_rules (parts_of (listed kept.entries)) ≡ true → (n : ℕ) (name : List ℕ)
+pub named_told : (kept : Numbers Record) (x : Index) → IsIndexed kept x → keep_rules (parts_of (listed kept.entries)) ≡ true → (n : ℕ) (name : List ℕ)
     → find (has_name name) (kind_at as_savepoint (listed kept.entries) (ids_at x (SavepointsOf n))) ≡ find (has_name name) (saved_in (parts_of (listed kept.entries)) n)
 unfolding parts_of
 named_told kept x is rules n name =
@@ -145,14 +146,14 @@ named_told kept x is rules n name =
     ap (find (has_name name)) (sought_kind as_savepoint (λ (y : Savepoint). y.space == n) (SavepointsOf n) (of_test n) kept x is)
     ∙ sym (find-by_making name (filter (λ (y : Savepoint). y.space == n) (parts_of (listed kept.entries)).savepoints) (names_apart n (parts_of (listed kept.entries)).savepoints s.names))
 
-pub saved_told : (kept : BTreeMap ℕ Record) (x : Index) → IsIndexed kept x → (n making : ℕ)
+pub saved_told : (kept : Numbers Record) (x : Index) → IsIndexed kept x → (n making : ℕ)
     → find (λ (y : Savepoint). y.space == n) (kind_at as_savepoint (listed kept.entries) (ids_at x (SavepointAt making))) ≡ saved_as (parts_of (listed kept.entries)) n making
 unfolding parts_of
 saved_told kept x is n making =
     ap (find (λ (y : Savepoint). y.space == n)) (sought_kind as_savepoint (λ (y : Savepoint). y.making == making) (SavepointAt making) (at_test making) kept x is)
     ∙ find-filter (λ (y : Savepoint). y.space == n) (λ (y : Savepoint). y.making == making) (parts_of (listed kept.entries)).savepoints
 
-pub count_told : (kept : BTreeMap ℕ Record) (x : Index) → IsIndexed kept x → (n : ℕ) → length (ids_at x (SavepointsOf n)) ≡ count_by (λ (y : Savepoint). y.space == n) (parts_of (listed kept.entries)).savepoints
+pub count_told : (kept : Numbers Record) (x : Index) → IsIndexed kept x → (n : ℕ) → length (ids_at x (SavepointsOf n)) ≡ count_by (λ (y : Savepoint). y.space == n) (parts_of (listed kept.entries)).savepoints
 unfolding parts_of
 count_told kept x is n = count_sought as_savepoint (λ (y : Savepoint). y.space == n) (SavepointsOf n) (of_test n) kept x is
 
@@ -166,7 +167,7 @@ any-filter {A} q p (x ∷ xs) = by_test (q x) refl (any-filter q p xs)
     by_test false e rest = rest
 
 -- a savepoint of a workspace stands behind a place
-pub behind_told : (kept : BTreeMap ℕ Record) (x : Index) → IsIndexed kept x → (n place log_length : ℕ)
+pub behind_told : (kept : Numbers Record) (x : Index) → IsIndexed kept x → (n place log_length : ℕ)
     → list_any (is_saved_behind n place log_length) (kind_at as_savepoint (listed kept.entries) (ids_at x (SavepointsOf n))) ≡ list_any (is_saved_behind n place log_length) (parts_of (listed kept.entries)).savepoints
 unfolding parts_of
 behind_told kept x is n place log_length =
@@ -179,7 +180,7 @@ behind_told kept x is n place log_length =
 abbrev pub is_made : Parts → ℕ → Bool
 is_made p q = list_any (λ (y : Savepoint). y.making == q) p.savepoints
 
-pub last_made : (kept : BTreeMap ℕ Record) (x : Index) → IsIndexed kept x → (ss : List Stored) → listed kept.entries ≡ ss → (o : Option ℕ) → IsOrdered nat_cmp x.savepoints → o ≡ last_used x.savepoints.entries
+pub last_made : (kept : Numbers Record) (x : Index) → IsIndexed kept x → (ss : List Stored) → listed kept.entries ≡ ss → (o : Option ℕ) → IsOrdered nat_cmp x.savepoints → o ≡ last_used x.savepoints.entries
     → LastOf (is_made (parts_of ss)) o
 unfolding parts_of
 last_made kept x is ss view o sorted last =

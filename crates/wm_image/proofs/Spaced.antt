@@ -1,8 +1,9 @@
 -- Workspaces by name, how many there are, and the versions that nothing names.
 use Rattle.std.proofs.Common.{◌≡◌, ℕ, ◌<◌, ◌==◌, Bool, true, false, not, ◌&&◌, ◌||◌, eqb, List, [], ◌∷◌, length, Option, Some, refl, sym, ap, ◌∙◌, subst, arith}
-use Rattle.std.specs.BTreeMap.{BTreeMap, IsOrdered}
+use Rattle.std.specs.BTreeMap.{IsOrdered}
 use Rattle.std.specs.List.{list_any}
 use Rattle.std.specs.Ordering.{nat_cmp}
+use Rattle.wm_chunks.specs.Numbers.{Numbers}
 use Rattle.wm_graph.specs.Parts.{Parts, parts_of, as_savepoint, as_space, space_of}
 use Rattle.wm_spec.specs.declared.record.Record.TheVariants as records
 use Rattle.wm_spec.specs.declared.record.Record.{Record}
@@ -47,11 +48,11 @@ under_test n _ = refl
 
 -- ---- all of them
 
-pub spaces_told : (kept : BTreeMap ℕ Record) (x : Index) → IsIndexed kept x → kind_at as_space (listed kept.entries) (ids_at x Spaces) ≡ (parts_of (listed kept.entries)).spaces
+pub spaces_told : (kept : Numbers Record) (x : Index) → IsIndexed kept x → kind_at as_space (listed kept.entries) (ids_at x Spaces) ≡ (parts_of (listed kept.entries)).spaces
 unfolding parts_of
 spaces_told kept x is = sought_kind as_space (λ (r : Space). true) Spaces spaces_test kept x is ∙ filter_all (parts_of (listed kept.entries)).spaces
 
-pub spaces_counted : (kept : BTreeMap ℕ Record) (x : Index) → IsIndexed kept x → length (ids_at x Spaces) ≡ length (parts_of (listed kept.entries)).spaces
+pub spaces_counted : (kept : Numbers Record) (x : Index) → IsIndexed kept x → length (ids_at x Spaces) ≡ length (parts_of (listed kept.entries)).spaces
 unfolding parts_of
 spaces_counted kept x is = count_sought as_space (λ (r : Space). true) Spaces spaces_test kept x is ∙ count_all (parts_of (listed kept.entries)).spaces
 
@@ -59,7 +60,7 @@ spaces_counted kept x is = count_sought as_space (λ (r : Space). true) Spaces s
 abbrev pub is_numbered : Parts → ℕ → Bool
 is_numbered p q = list_any (λ (r : Space). r.number == q) p.spaces
 
-pub last_numbered : (kept : BTreeMap ℕ Record) (x : Index) → IsIndexed kept x → (ss : List Stored) → listed kept.entries ≡ ss → (o : Option ℕ) → IsOrdered nat_cmp x.spaces → o ≡ last_used x.spaces.entries
+pub last_numbered : (kept : Numbers Record) (x : Index) → IsIndexed kept x → (ss : List Stored) → listed kept.entries ≡ ss → (o : Option ℕ) → IsOrdered nat_cmp x.spaces → o ≡ last_used x.spaces.entries
     → LastOf (is_numbered (parts_of ss)) o
 unfolding parts_of
 last_numbered kept x is ss view o sorted last =
@@ -100,7 +101,7 @@ is_empty ids b e = nil_told ids ∙ twice (is_nil ids) ∙ ap not e
 abbrev pub is_unnamed : Parts → ℕ → Bool
 is_unnamed p version = not (list_any (λ (x : Savepoint). x.version == version) p.savepoints || (list_any (rests_on version) p.savepoints || list_any (names version) p.spaces))
 
-free_told : (kept : BTreeMap ℕ Record) (x : Index) → IsIndexed kept x → (version : ℕ)
+free_told : (kept : Numbers Record) (x : Index) → IsIndexed kept x → (version : ℕ)
     → (eqb (length (ids_at x (KeptAs version))) 0 && (eqb (length (ids_at x (KeptUnder version))) 0 && (eqb (length (ids_at x (BornAs version))) 0 && eqb (length (ids_at x (SeenUnder version))) 0))) ≡ is_unnamed (parts_of (listed kept.entries)) version
 unfolding parts_of
 free_told kept x is version =
@@ -113,7 +114,7 @@ free_told kept x is version =
     ) (none_of (list_any (λ (y : Savepoint). y.version == version) (parts_of (listed kept.entries)).savepoints) (list_any (rests_on version) (parts_of (listed kept.entries)).savepoints) (list_any (born version) (parts_of (listed kept.entries)).spaces) (list_any (under version) (parts_of (listed kept.entries)).spaces))
 
 -- the same of lists that are those of the index
-pub free_by : (kept : BTreeMap ℕ Record) (x : Index) → IsIndexed kept x → (version : ℕ) (saved rested births bases : List ℕ) → saved ≡ ids_at x (KeptAs version) → rested ≡ ids_at x (KeptUnder version) → births ≡ ids_at x (BornAs version) → bases ≡ ids_at x (SeenUnder version)
+pub free_by : (kept : Numbers Record) (x : Index) → IsIndexed kept x → (version : ℕ) (saved rested births bases : List ℕ) → saved ≡ ids_at x (KeptAs version) → rested ≡ ids_at x (KeptUnder version) → births ≡ ids_at x (BornAs version) → bases ≡ ids_at x (SeenUnder version)
     → ((length saved == 0) && ((length rested == 0) && ((length births == 0) && (length bases == 0)))) ≡ is_unnamed (parts_of (listed kept.entries)) version
 free_by kept x is version saved rested births bases e f g h = rw (e, f, g, h) (free_told kept x is version)
 

@@ -1,7 +1,7 @@
 -- How many tables there are, and the number that comes next.
 use Rattle.std.proofs.Common.{◌≡◌, ℕ, ◌+◌, suc, max, nat_lt, Bool, true, false, cond, List, [], ◌∷◌, length, map, refl, sym, ap, ◌∙◌, arith}
-use Rattle.std.specs.BTreeMap.{BTreeMap}
 use Rattle.std.specs.List.{filter_map, cons_option}
+use Rattle.wm_chunks.specs.Numbers.{Numbers}
 use Rattle.wm_graph.specs.Parts.{parts_of, as_table}
 use Rattle.wm_spec.specs.declared.record.Record.{Record}
 use Rattle.wm_spec.specs.declared.record.Record.TheVariants as records
@@ -42,5 +42,5 @@ next-by_number [] = refl
 next-by_number (t ∷ ts) = next-place t (by_number ts) ∙ ap (max (t.number + 1)) (next-by_number ts)
 
 -- the number that comes next, told by the index
-pub next_told : (kept : BTreeMap ℕ Record) (x : Index) → IsIndexed kept x → next_table (kind_at as_table (listed kept.entries) (ids_at x Tables)) ≡ next_table (by_number (parts_of (listed kept.entries)).tables)
+pub next_told : (kept : Numbers Record) (x : Index) → IsIndexed kept x → next_table (kind_at as_table (listed kept.entries) (ids_at x Tables)) ≡ next_table (by_number (parts_of (listed kept.entries)).tables)
 next_told kept x is = ap next_table (tables_told kept x is) ∙ sym (next-by_number (parts_of (listed kept.entries)).tables)

@@ -1,7 +1,7 @@
 -- Turns of a workspace and a number.
 use Rattle.std.proofs.Common.{◌≡◌, ℕ, eqb, not, List, length, refl, ap, ◌∙◌}
-use Rattle.std.specs.BTreeMap.{BTreeMap}
 use Rattle.std.specs.List.{list_any}
+use Rattle.wm_chunks.specs.Numbers.{Numbers}
 use Rattle.wm_graph.specs.Parts.{parts_of, as_turn}
 use Rattle.wm_index.proofs.Finding.{Tests}
 use Rattle.wm_index.proofs.Firsts.{any_sought}
@@ -19,7 +19,7 @@ turn_test space number (records.Turn x) = refl
 turn_test space number _ = refl
 
 -- there is one where the index has ids of it
-pub turn_told : (kept : BTreeMap ℕ Record) (x : Index) → IsIndexed kept x → (ss : List Stored) → listed kept.entries ≡ ss → (space number : ℕ)
+pub turn_told : (kept : Numbers Record) (x : Index) → IsIndexed kept x → (ss : List Stored) → listed kept.entries ≡ ss → (space number : ℕ)
     → not (eqb (length (ids_at x (TurnAt space number))) 0) ≡ list_any (is_turn space number) (parts_of ss).turns
 unfolding parts_of
 turn_told kept x is ss view space number =

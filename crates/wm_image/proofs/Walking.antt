@@ -2,11 +2,11 @@
 use Rattle.std.proofs.Common.{◌≡◌, ◌≢◌, ◌<◌, ℕ, Bool, true, false, cond, ◌&&◌, ◌||◌, ◌==◌, nat_lt, nat_le, List, [], ◌∷◌, Option, Some, None, is_some, refl, sym, ap, ◌∙◌, subst, arith, ◌⊎◌, inl, inr}
 use Rattle.std.proofs.lemmas.Bool.{cases_eq, eq-eqb, ne_eqb, eqb-true}
 use Rattle.std.specs.Bool.{then_some}
-use Rattle.std.specs.BTreeMap.{BTreeMap}
 use Rattle.std.specs.List.{filter, filter_map, list_all, cons_option}
 use Rattle.std.specs.Option.{IsSome, option_map, option_map_or, option_or, option_and_then}
 use Rattle.std.specs.Ordering.{is_eq}
 use Rattle.wm_base.specs.Key.{key_order}
+use Rattle.wm_chunks.specs.Numbers.{Numbers}
 use Rattle.wm_graph.specs.Parts.{Parts, parts_of, version_of, space_of, as_piece}
 use Rattle.wm_graph.specs.Rules.{keep_rules, is_version, is_version_of, stands_under}
 use Rattle.wm_period.specs.Pieces.{Held}
@@ -163,7 +163,7 @@ held-cons ss id ids v t = by_record (record_at ss id)
 -- ---- what an index tells
 
 -- what a version has of pieces at a cell, by its ids for the table and key alone
-pub held_told : (kept : BTreeMap ℕ Record) (x : Index) → IsIndexed kept x → (c : Cell) (v : ℕ)
+pub held_told : (kept : Numbers Record) (x : Index) → IsIndexed kept x → (c : Cell) (v : ℕ)
     → first_held (kind_at as_piece (listed kept.entries) (ids_at x (PieceAt c.table c.key v))) v c.time ≡ stored_at (parts_of (listed kept.entries)).pieces v c
 unfolding parts_of
 held_told kept x is c v =

@@ -1,8 +1,8 @@
 -- What is looked up in records, told by the ids of what is sought.
 use Rattle.std.proofs.Common.{◌≡◌, ℕ, ◌==◌, Bool, true, false, cond, List, [], ◌∷◌, map, Option, Some, None, is_some, refl, sym, ap, ◌∙◌}
-use Rattle.std.specs.BTreeMap.{BTreeMap}
 use Rattle.std.specs.List.{find, filter, filter_map}
 use Rattle.std.specs.Option.{option_and_then, option_map_or, option_to_list}
+use Rattle.wm_chunks.specs.Numbers.{Numbers}
 use Rattle.wm_graph.specs.Parts.{Parts, parts_of, as_counters, as_space, as_version, as_row, space_of, version_of, row_of}
 use Rattle.wm_graph.specs.Rules.{keep_rules}
 use Rattle.wm_spec.specs.Records.{record_at}
@@ -78,34 +78,34 @@ counters_test _ = refl
 -- ---- what an index tells
 
 -- the record of the first id of what is sought is the first that is sought
-pub first_sought : (kept : BTreeMap ℕ Record) (x : Index) → IsIndexed kept x → (q : Sought) → first_of (listed kept.entries) (ids_at x q) ≡ find (is_sought q) (all_of (listed kept.entries))
+pub first_sought : (kept : Numbers Record) (x : Index) → IsIndexed kept x → (q : Sought) → first_of (listed kept.entries) (ids_at x q) ≡ find (is_sought q) (all_of (listed kept.entries))
 first_sought kept x is q = ap (first_of (listed kept.entries)) (is.told q) ∙ first-with (is_sought q) (listed kept.entries) (sorted-listed kept.entries is.ordered)
 
 -- the records of the ids of what is sought are those that are sought
-pub all_sought : (kept : BTreeMap ℕ Record) (x : Index) → IsIndexed kept x → (q : Sought)
+pub all_sought : (kept : Numbers Record) (x : Index) → IsIndexed kept x → (q : Sought)
     → filter_map (record_at (listed kept.entries)) (ids_at x q) ≡ filter (is_sought q) (all_of (listed kept.entries))
 all_sought kept x is q = ap (filter_map (record_at (listed kept.entries))) (is.told q) ∙ taken-with (is_sought q) (listed kept.entries) (sorted-listed kept.entries is.ordered)
 
 -- the first of a kind that passes a test, told by the index
-pub found_kind : {A : Type 0} (kind : Record → Option A) (p : A → Bool) (q : Sought) → Tests kind p (is_sought q) → (kept : BTreeMap ℕ Record) (x : Index) → IsIndexed kept x
+pub found_kind : {A : Type 0} (kind : Record → Option A) (p : A → Bool) (q : Sought) → Tests kind p (is_sought q) → (kept : Numbers Record) (x : Index) → IsIndexed kept x
     → option_and_then kind (first_of (listed kept.entries) (ids_at x q)) ≡ find p (filter_map kind (all_of (listed kept.entries)))
 found_kind kind p q tests kept x is =
     ap (option_and_then kind) (first_sought kept x is q) ∙ sym (find-kind kind p (is_sought q) tests (all_of (listed kept.entries)))
 
-pub space_found : (kept : BTreeMap ℕ Record) (x : Index) → IsIndexed kept x → (n : ℕ) → option_and_then as_space (first_of (listed kept.entries) (ids_at x (SpaceAt n))) ≡ space_of (parts_of (listed kept.entries)).spaces n
+pub space_found : (kept : Numbers Record) (x : Index) → IsIndexed kept x → (n : ℕ) → option_and_then as_space (first_of (listed kept.entries) (ids_at x (SpaceAt n))) ≡ space_of (parts_of (listed kept.entries)).spaces n
 unfolding parts_of
 space_found kept x is n = found_kind as_space (λ (s : Space). s.number == n) (SpaceAt n) (space_test n) kept x is
 
-pub version_found : (kept : BTreeMap ℕ Record) (x : Index) → IsIndexed kept x → (n : ℕ)
+pub version_found : (kept : Numbers Record) (x : Index) → IsIndexed kept x → (n : ℕ)
     → option_and_then as_version (first_of (listed kept.entries) (ids_at x (VersionAt n))) ≡ version_of (parts_of (listed kept.entries)).versions n
 unfolding parts_of
 version_found kept x is n = found_kind as_version (λ (v : Version). v.number == n) (VersionAt n) (version_test n) kept x is
 
-pub row_found : (kept : BTreeMap ℕ Record) (x : Index) → IsIndexed kept x → (n : ℕ) → option_and_then as_row (first_of (listed kept.entries) (ids_at x (RowAt n))) ≡ row_of (parts_of (listed kept.entries)).rows n
+pub row_found : (kept : Numbers Record) (x : Index) → IsIndexed kept x → (n : ℕ) → option_and_then as_row (first_of (listed kept.entries) (ids_at x (RowAt n))) ≡ row_of (parts_of (listed kept.entries)).rows n
 unfolding parts_of
 row_found kept x is n = found_kind as_row (λ (r : RowRecord). r.stamp == n) (RowAt n) (row_test n) kept x is
 
-pub counters_found : (kept : BTreeMap ℕ Record) (x : Index) → IsIndexed kept x
+pub counters_found : (kept : Numbers Record) (x : Index) → IsIndexed kept x
     → option_and_then as_counters (first_of (listed kept.entries) (ids_at x TheCounters)) ≡ find (λ (c : Counters). true) (parts_of (listed kept.entries)).counters
 unfolding parts_of
 counters_found kept x is = found_kind as_counters (λ c. true) TheCounters counters_test kept x is
@@ -131,7 +131,7 @@ one_counters p found kept is = by_list p.counters refl
         no : false ≡ true → ⊥
         no h = cc
 
-pub counters_told : (kept : BTreeMap ℕ Record) (x : Index) → IsIndexed kept x → (ss : List Stored) → listed kept.entries ≡ ss → (first : Option Record) (found : Option Counters)
+pub counters_told : (kept : Numbers Record) (x : Index) → IsIndexed kept x → (ss : List Stored) → listed kept.entries ≡ ss → (first : Option Record) (found : Option Counters)
     → first ≡ first_of (listed kept.entries) (ids_at x TheCounters) → found ≡ option_and_then as_counters first → found ≡ find (λ (c : Counters). true) (parts_of ss).counters
 counters_told kept x is ss view first found here as_one =
     as_one ∙ ap (option_and_then as_counters) here ∙ counters_found kept x is ∙ ap (λ (l : List Stored). find (λ (c : Counters). true) (parts_of l).counters) view
@@ -158,7 +158,7 @@ head-some {A} kind p q tests (s ∷ ss) = by_kind (kind s.record) refl (tests s.
         by_test false rest = rest
 
 -- the first id of what is sought, and its record
-pub id_told : {A : Type 0} (kind : Record → Option A) (p : A → Bool) (q : Sought) → Tests kind p (is_sought q) → (kept : BTreeMap ℕ Record) (x : Index) → IsIndexed kept x
+pub id_told : {A : Type 0} (kind : Record → Option A) (p : A → Bool) (q : Sought) → Tests kind p (is_sought q) → (kept : Numbers Record) (x : Index) → IsIndexed kept x
     → (option_and_then kind (option_and_then (record_at (listed kept.entries)) (head_of (ids_at x q))) ≡ find p (filter_map kind (all_of (listed kept.entries))))
     × (is_some (head_of (ids_at x q)) ≡ is_some (find p (filter_map kind (all_of (listed kept.entries)))))
 id_told kind p q tests kept x is = (
@@ -166,13 +166,13 @@ id_told kind p q tests kept x is = (
   ap (λ ids. is_some (head_of ids)) (is.told q) ∙ head-some kind p (is_sought q) tests (listed kept.entries),
 )
 
-pub space_id : (kept : BTreeMap ℕ Record) (x : Index) → IsIndexed kept x → (n : ℕ)
+pub space_id : (kept : Numbers Record) (x : Index) → IsIndexed kept x → (n : ℕ)
     → (option_and_then as_space (option_and_then (record_at (listed kept.entries)) (head_of (ids_at x (SpaceAt n)))) ≡ space_of (parts_of (listed kept.entries)).spaces n)
     × (is_some (head_of (ids_at x (SpaceAt n))) ≡ is_some (space_of (parts_of (listed kept.entries)).spaces n))
 unfolding parts_of
 space_id kept x is n = id_told as_space (λ (s : Space). s.number == n) (SpaceAt n) (space_test n) kept x is
 
-pub counters_id : (kept : BTreeMap ℕ Record) (x : Index) → IsIndexed kept x
+pub counters_id : (kept : Numbers Record) (x : Index) → IsIndexed kept x
     → (option_and_then as_counters (option_and_then (record_at (listed kept.entries)) (head_of (ids_at x TheCounters))) ≡ find (λ (c : Counters). true) (parts_of (listed kept.entries)).counters)
     × (is_some (head_of (ids_at x TheCounters)) ≡ is_some (find (λ (c : Counters). true) (parts_of (listed kept.entries)).counters))
 unfolding parts_of
@@ -189,7 +189,7 @@ listed_one p kept =
     by_found (Some c) some h = h c refl
 
 -- its id, where it was found
-pub one_id : (kept : BTreeMap ℕ Record) (x : Index) → IsIndexed kept x → (ss : List Stored) → listed kept.entries ≡ ss → keep_rules (parts_of ss) ≡ true → (head : Option ℕ)
+pub one_id : (kept : Numbers Record) (x : Index) → IsIndexed kept x → (ss : List Stored) → listed kept.entries ≡ ss → keep_rules (parts_of ss) ≡ true → (head : Option ℕ)
     → head ≡ head_of (ids_at x TheCounters) → (is_some head ≡ true) × ((id : ℕ) → head ≡ Some id → (parts_of ss).counters ≡ option_to_list (option_and_then as_counters (record_at ss id)))
 one_id kept x is ss view kept_rules head is_head =
     let told = counters_id kept x is in

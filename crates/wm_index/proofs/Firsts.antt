@@ -1,9 +1,9 @@
 -- What is found or counted among records of a kind, told by the ids of what is sought.
 use Rattle.std.proofs.Common.{◌≡◌, ℕ, Bool, true, false, cond, not, ◌&&◌, ◌||◌, List, [], ◌∷◌, length, Option, Some, None, is_some, refl, sym, ap, ◌∙◌, arith}
 use Rattle.std.proofs.lemmas.List.Sums.{length-filter}
-use Rattle.std.specs.BTreeMap.{BTreeMap}
 use Rattle.std.specs.List.{count_by, filter, filter_map, find, list_any}
 use Rattle.std.specs.Option.{option_map_or}
+use Rattle.wm_chunks.specs.Numbers.{Numbers}
 use Rattle.wm_spec.specs.declared.record.Record.{Record}
 use Rattle.wm_spec.specs.declared.record.stored.Stored.{Stored}
 use Rattle.wm_index.proofs.Finding.{Tests, all_of, all_sought, filter-kind}
@@ -15,12 +15,12 @@ use Rattle.wm_index.specs.Sought.{Sought, is_sought, ids_with, is_nil}
 use Rattle.wm_index.specs.declared.index.Index.{Index}
 
 -- those of a kind that pass a test
-pub sought_kind : {A : Type 0} (kind : Record → Option A) (p : A → Bool) (q : Sought) → Tests kind p (is_sought q) → (kept : BTreeMap ℕ Record) (x : Index) → IsIndexed kept x
+pub sought_kind : {A : Type 0} (kind : Record → Option A) (p : A → Bool) (q : Sought) → Tests kind p (is_sought q) → (kept : Numbers Record) (x : Index) → IsIndexed kept x
     → kind_at kind (listed kept.entries) (ids_at x q) ≡ filter p (filter_map kind (all_of (listed kept.entries)))
 sought_kind kind p q tests kept x is = ap (filter_map kind) (all_sought kept x is q) ∙ filter-kind kind p (is_sought q) tests (all_of (listed kept.entries))
 
 -- whether one of a kind passes a test
-pub any_sought : {A : Type 0} (kind : Record → Option A) (p : A → Bool) (q : Sought) → Tests kind p (is_sought q) → (kept : BTreeMap ℕ Record) (x : Index) → IsIndexed kept x
+pub any_sought : {A : Type 0} (kind : Record → Option A) (p : A → Bool) (q : Sought) → Tests kind p (is_sought q) → (kept : Numbers Record) (x : Index) → IsIndexed kept x
     → not (is_nil (ids_at x q)) ≡ list_any p (filter_map kind (all_of (listed kept.entries)))
 any_sought kind p q tests kept x is =
     ap (λ ids. not (is_nil ids)) (is.told q) ∙ some_ids (is_sought q) (listed kept.entries) ∙ any-kind kind p (is_sought q) tests (all_of (listed kept.entries))
@@ -40,7 +40,7 @@ length-kind {A} kind p q tests (s ∷ ss) = by_kind (kind s.record) refl (tests 
         by_test false rest = rest
 
 -- how many of a kind pass a test
-pub count_sought : {A : Type 0} (kind : Record → Option A) (p : A → Bool) (q : Sought) → Tests kind p (is_sought q) → (kept : BTreeMap ℕ Record) (x : Index) → IsIndexed kept x
+pub count_sought : {A : Type 0} (kind : Record → Option A) (p : A → Bool) (q : Sought) → Tests kind p (is_sought q) → (kept : Numbers Record) (x : Index) → IsIndexed kept x
     → length (ids_at x q) ≡ count_by p (filter_map kind (all_of (listed kept.entries)))
 count_sought kind p q tests kept x is =
     ap (λ ids. length ids) (is.told q)

@@ -1,8 +1,8 @@
 -- Versions with none under them.
 use Rattle.std.proofs.Common.{◌≡◌, ℕ, ◌==◌, Bool, true, false, not, eqb, List, [], ◌∷◌, length, Option, Some, None, refl, ap, ◌∙◌}
-use Rattle.std.specs.BTreeMap.{BTreeMap}
 use Rattle.std.specs.List.{filter_map, list_any}
 use Rattle.std.specs.Option.{option_map_or}
+use Rattle.wm_chunks.specs.Numbers.{Numbers}
 use Rattle.wm_graph.specs.Parts.{parts_of, as_version}
 use Rattle.wm_spec.specs.declared.record.Record.{Record}
 use Rattle.wm_spec.specs.declared.record.Record.TheVariants as records
@@ -34,7 +34,7 @@ not_not true = refl
 not_not false = refl
 
 -- the index has no ids of versions under one where there are none
-pub leaf_told : (kept : BTreeMap ℕ Record) (x : Index) → IsIndexed kept x → (ss : List Stored) → listed kept.entries ≡ ss → (version : ℕ)
+pub leaf_told : (kept : Numbers Record) (x : Index) → IsIndexed kept x → (ss : List Stored) → listed kept.entries ≡ ss → (version : ℕ)
     → eqb (length (ids_at x (VersionsUnder version))) 0 ≡ not (list_any (λ (v : Version). v.parent == version) (parts_of ss).versions)
 unfolding parts_of
 leaf_told kept x is ss view version =

@@ -1,12 +1,12 @@
 -- Records of a map, as a list by id.
-use Rattle.std.proofs.Common.{◌≡◌, ◌≢◌, ℕ, ◌<◌, ◌≤◌, ◌+◌, ◌^◌, ◌==◌, true, false, cond, List, [], ◌∷◌, map, length, Option, Some, None, is_some, refl, sym, ap, subst, ◌∙◌, ◌⊎◌, inl, inr, ⊎_elim, arith}
-use Rattle.std.proofs.lemmas.Bool.{cases_eq, cases_lt, eq-eqb, ne_eqb, lt-ltb}
-use Rattle.std.specs.BTreeMap.{BTreeMap, is_at}
+use Rattle.std.proofs.Common.{◌≡◌, ◌≢◌, ℕ, ◌<◌, ◌≤◌, ◌+◌, ◌^◌, ◌==◌, cond, List, [], ◌∷◌, map, Option, Some, None, is_some, refl, sym, ap, subst, ◌∙◌, ◌⊎◌, inl, inr, ⊎_elim, arith}
+use Rattle.std.proofs.lemmas.Bool.{cases_eq, cases_lt, eq-eqb, ne_eqb}
+use Rattle.std.specs.BTreeMap.{is_at}
 use Rattle.std.specs.List.Sorted.{IsStrictlySortedBy}
 use Rattle.std.specs.Map.{lookup, keys_of}
 use Rattle.std.specs.Option.{IsSome, IfSome, IfNone, SomeIff}
-use Rattle.std.specs.Ordering.{nat_cmp, is_lt}
-use Rattle.std.specs.declared.cmp.Ordering.TheVariants.{Less, Equal, Greater}
+use Rattle.std.specs.Ordering.{nat_cmp}
+use Rattle.wm_chunks.specs.Numbers.{Numbers}
 use Rattle.wm_spec.specs.Records.{record_at}
 use Rattle.wm_spec.specs.declared.record.Record.{Record}
 use Rattle.wm_index.proofs.Lists.{ids_of, record_at-none}
@@ -42,43 +42,29 @@ map_same (e ∷ es) = ap (λ l. e ∷ l) (map_same es)
 pub listed-same : (es fs : List (ℕ × Record)) → map (λ (p : ℕ × Record). p) es ≡ fs → listed es ≡ listed fs
 listed-same es fs e = ap listed (sym (map_same es) ∙ e)
 
--- above the greatest key there is nothing
-pub above_last : (m : BTreeMap ℕ Record) (k : ℕ) → ((q : ℕ) → IsSome (lookup (is_at (nat_cmp q)) m.entries) → is_lt (nat_cmp k q) ≡ false) → (id : ℕ) → k < id → record_at (listed m.entries) id ≡ None
-above_last m k bound id less = record_at-listed m.entries id ∙ by_found (lookup (is_at (nat_cmp id)) m.entries) (bound id)
-  where
-    true_false : true ≡ false → ⊥
-    true_false h = cc
+-- above the greatest id there is nothing
+pub above_last : (m : Numbers Record) (k : ℕ) → ((q : ℕ) → k < q → lookup (is_at (nat_cmp q)) m.entries ≡ None) → (id : ℕ) → k < id → record_at (listed m.entries) id ≡ None
+above_last m k above id less = record_at-listed m.entries id ∙ above id less
 
-    below : is_lt (nat_cmp k id) ≡ true
-    below = ap (λ b. is_lt (cond b Less (cond (k == id) Equal Greater))) (lt-ltb k id less)
-
-    by_found : (o : Option Record) → (IsSome o → is_lt (nat_cmp k id) ≡ false) → o ≡ None
-    by_found None b = refl
-    by_found (Some r) b = absurd (true_false (sym below ∙ b refl))
-
--- the id behind the greatest key, where there is one
-pub next_above : (m : BTreeMap ℕ Record) (k : ℕ) (next : Option ℕ) → ((id : ℕ) → k < id → record_at (listed m.entries) id ≡ None) → SomeIff next (k + 1 < 2 ^ 64) (k + 1)
+-- the id behind the greatest, where there is one
+pub next_above : (m : Numbers Record) (k : ℕ) (next : Option ℕ) → ((id : ℕ) → k < id → record_at (listed m.entries) id ≡ None) → SomeIff next (k + 1 < 2 ^ 64) (k + 1)
     → IfSome next (λ n. (id : ℕ) → n ≤ id → record_at (listed m.entries) id ≡ None)
 next_above m k None above h = tt
 next_above m k (Some n) above h = λ id le. above id (let is = h.1 in omega arith)
 
-pub next_full : (m : BTreeMap ℕ Record) (k : ℕ) (next : Option ℕ) (r : Record) → lookup (is_at (nat_cmp k)) m.entries ≡ Some r → SomeIff next (k + 1 < 2 ^ 64) (k + 1)
+pub next_full : (m : Numbers Record) (k : ℕ) (next : Option ℕ) → IsSome (lookup (is_at (nat_cmp k)) m.entries) → SomeIff next (k + 1 < 2 ^ 64) (k + 1)
     → IfNone next ((id : ℕ) × (2 ^ 64 ≤ id + 1) × IsSome (record_at (listed m.entries) id))
-next_full m k None r is h = (k, ⊎_elim (λ less. absurd (h less)) (λ more. more) (cases_lt (k + 1) (2 ^ 64)), ap is_some (record_at-listed m.entries k ∙ is))
-next_full m k (Some n) r is h = tt
+next_full m k None some h = (k, ⊎_elim (λ less. absurd (h less)) (λ more. more) (cases_lt (k + 1) (2 ^ 64)), ap is_some (record_at-listed m.entries k) ∙ some)
+next_full m k (Some n) some h = tt
 
 -- the id before it has a record
-pub next_lowest : (m : BTreeMap ℕ Record) (k : ℕ) (next : Option ℕ) (r : Record) → lookup (is_at (nat_cmp k)) m.entries ≡ Some r → SomeIff next (k + 1 < 2 ^ 64) (k + 1)
+pub next_lowest : (m : Numbers Record) (k : ℕ) (next : Option ℕ) → IsSome (lookup (is_at (nat_cmp k)) m.entries) → SomeIff next (k + 1 < 2 ^ 64) (k + 1)
     → IfSome next (λ n. (id : ℕ) → n ≡ id + 1 → 0 < id → IsSome (record_at (listed m.entries) id))
-next_lowest m k None r is h = tt
-next_lowest m k (Some n) r is h = λ id e up. subst (λ i. IsSome (record_at (listed m.entries) i)) (same id e h.1) (ap is_some (record_at-listed m.entries k ∙ is))
+next_lowest m k None some h = tt
+next_lowest m k (Some n) some h = λ id e up. subst (λ i. IsSome (record_at (listed m.entries) i)) (same id e h.1) (ap is_some (record_at-listed m.entries k) ∙ some)
   where
     same : (id : ℕ) → n ≡ id + 1 → n ≡ k + 1 → k ≡ id
     same id e f = omega (arith, e, f)
 
-pub none_there : (m : BTreeMap ℕ Record) → ((0 < length m.entries) → ⊥) → (id : ℕ) → record_at (listed m.entries) id ≡ None
-none_there m none id = by_list m.entries none
-  where
-    by_list : (es : List (ℕ × Record)) → ((0 < length es) → ⊥) → record_at (listed es) id ≡ None
-    by_list [] h = record_at-none id
-    by_list (e ∷ es) h = absurd (h (omega arith))
+pub none_there : (m : Numbers Record) → m.entries ≡ [] → (id : ℕ) → record_at (listed m.entries) id ≡ None
+none_there m none id = ap (λ es. record_at (listed es) id) none ∙ record_at-none id

@@ -2,13 +2,14 @@
 use Rattle.std.proofs.Common.{◌≡◌, ℕ, ◌==◌, Bool, true, false, cond, ◌&&◌, List, [], ◌∷◌, map, Option, Some, None, refl, sym, ap, subst, ◌∙◌, arith}
 use Rattle.std.proofs.lemmas.Bool.{eq-eqb, eqb-true}
 use Rattle.std.proofs.lemmas.Map.Keys.{sorted_head, sorted_tail}
-use Rattle.std.specs.BTreeMap.{BTreeMap, is_at}
+use Rattle.std.specs.BTreeMap.{is_at}
 use Rattle.std.specs.List.{AllByRecursion, find}
 use Rattle.std.specs.List.Sorted.{IsStrictlySortedBy}
 use Rattle.std.specs.Map.{keys_of, values_of}
 use Rattle.std.specs.Option.{option_and_then}
 use Rattle.std.specs.Ordering.{nat_cmp}
 use Rattle.std.specs.declared.cmp.Ordering.TheVariants.{Less}
+use Rattle.wm_chunks.specs.Numbers.{Numbers}
 use Rattle.wm_graph.specs.Parts.{parts_of, as_hist}
 use Rattle.wm_spec.specs.Records.{record_at}
 use Rattle.wm_spec.specs.declared.record.Record.{Record}
@@ -152,7 +153,7 @@ hist_test space table (records.Hist x) = refl
 hist_test space table _ = refl
 
 -- the entries of the ids that the index has of a log on a table are those of the records
-pub hists_told : (kept : BTreeMap ℕ Record) (x : Index) → IsIndexed kept x → (space table : ℕ)
+pub hists_told : (kept : Numbers Record) (x : Index) → IsIndexed kept x → (space table : ℕ)
     → kind_at as_hist (listed kept.entries) (ids_at x (HistsOn space table)) ≡ logged_on space table (parts_of (listed kept.entries)).hists
 unfolding parts_of
 hists_told kept x is space table = sought_kind as_hist (λ (r : Hist). (r.space == space) && (r.cells.table == table)) (HistsOn space table) (hist_test space table) kept x is

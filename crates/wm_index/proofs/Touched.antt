@@ -5,7 +5,7 @@ use Rattle.std.proofs.lemmas.Cmp.{nat_cmp_total, eq_by_cmp_equiv, on_total, then
 use Rattle.std.proofs.lemmas.Map.{lookup-none}
 use Rattle.std.proofs.lemmas.Map.Entries.{none_past_head}
 use Rattle.std.proofs.lemmas.Map.Keys.{sorted_head, sorted_tail, IsDistinct-from_sorted}
-use Rattle.std.specs.BTreeMap.{BTreeMap, IsOrdered, is_at}
+use Rattle.std.specs.BTreeMap.{IsOrdered, is_at}
 use Rattle.std.specs.Cmp.{IsTotalOrder, both_ways}
 use Rattle.std.specs.List.{AllByRecursion, list_any}
 use Rattle.std.specs.List.Sorted.{IsStrictlySortedBy}
@@ -13,6 +13,7 @@ use Rattle.std.specs.Map.{keys_of, lookup}
 use Rattle.std.specs.Option.{option_map_or}
 use Rattle.std.specs.Ordering.{nat_cmp}
 use Rattle.std.specs.declared.cmp.Ordering.TheVariants.{Less}
+use Rattle.wm_chunks.specs.Numbers.{Numbers}
 use Rattle.wm_index.proofs.IdLists.{less_than}
 use Rattle.wm_index.proofs.Listed.{sorted-listed}
 use Rattle.wm_index.proofs.Lists.{ids_of, record_at-none, record_at-here, record_at-away}
@@ -147,7 +148,7 @@ at_since space from (Some (records.Touch r)) is = by_test (r.space == space) ref
 at_since space from (Some _) is = absurd (true_false (sym is))
 
 -- the ids under the positions of a workspace from one on are those of its touches from that on
-pub touches_told : (kept : BTreeMap ℕ Record) (x : Index) → IsIndexed kept x → IsOrdered pair_order x.touched_at → (space from id : ℕ)
+pub touches_told : (kept : Numbers Record) (x : Index) → IsIndexed kept x → IsOrdered pair_order x.touched_at → (space from id : ℕ)
     → list_any (has_since space from id) x.touched_at.entries ≡ option_map_or (is_touch_since space from) (record_at (listed kept.entries) id) false
 touches_told kept x is ordered space from id = both_ways _ _ there back
   where

@@ -4,7 +4,7 @@ use Rattle.std.proofs.lemmas.Bool.{eq-eqb, ne_eqb}
 use Rattle.std.proofs.lemmas.Cmp.{eq_by_cmp_equiv}
 use Rattle.std.proofs.lemmas.Map.Entries.{none_past_head}
 use Rattle.std.proofs.lemmas.Map.Keys.{sorted_tail, IsDistinct-from_sorted}
-use Rattle.std.specs.BTreeMap.{BTreeMap, is_at}
+use Rattle.std.specs.BTreeMap.{is_at}
 use Rattle.std.specs.Cmp.{both_ways}
 use Rattle.std.specs.Ordering.{is_eq}
 use Rattle.std.specs.List.{list_any, AllByRecursion}
@@ -17,6 +17,7 @@ use Rattle.std.specs.declared.vec.Vec.{Vec}
 use Rattle.wm_base.specs.Key.{key_order}
 use Rattle.wm_base.specs.Orders.{key_order_total}
 use Rattle.wm_base.specs.declared.value.Value.{Value}
+use Rattle.wm_chunks.specs.Numbers.{Numbers}
 use Rattle.wm_spec.specs.declared.record.Record.{Record}
 use Rattle.wm_spec.specs.declared.record.stored.Stored.{Stored}
 use Rattle.wm_index.proofs.Finding.{all_of}
@@ -188,7 +189,7 @@ nil_not true is = absurd (true_false (sym is))
 nil_not false is = refl
 
 -- some version of a key has ids where there is a piece of it
-pub pieces_told : (kept : BTreeMap ℕ Record) (x : Index) → IsIndexed kept x → (table : ℕ) (k : List Value) → has_ids (versions_on x.pieces.entries table k) ≡ list_any (is_piece_of table k) (all_of (listed kept.entries))
+pub pieces_told : (kept : Numbers Record) (x : Index) → IsIndexed kept x → (table : ℕ) (k : List Value) → has_ids (versions_on x.pieces.entries table k) ≡ list_any (is_piece_of table k) (all_of (listed kept.entries))
 pieces_told kept x is table k = both_ways _ _ there back
   where
     at : (v : ℕ) → not (is_nil (ids_under (versions_on x.pieces.entries table k) v)) ≡ list_any (is_sought (PieceAt table k v)) (all_of (listed kept.entries))
@@ -205,7 +206,7 @@ pieces_told kept x is table k = both_ways _ _ there back
         has_under found.0 (versions_on x.pieces.entries table k) (nil_not _ (at found.0 ∙ found.1))
 
 -- the keys of a table's entries are those of its pieces
-pub keys_told : (kept : BTreeMap ℕ Record) (x : Index) → IsIndexed kept x → (table : ℕ) (es : Keyed) → keyed_at x.pieces.entries table ≡ es → IsStrictlySortedBy key_order (keys_of es) → (k : List Value)
+pub keys_told : (kept : Numbers Record) (x : Index) → IsIndexed kept x → (table : ℕ) (es : Keyed) → keyed_at x.pieces.entries table ≡ es → IsStrictlySortedBy key_order (keys_of es) → (k : List Value)
     → list_any (is_at (key_order k)) (used es) ≡ list_any (is_piece_of table k) (all_of (listed kept.entries))
 keys_told kept x is table es here sorted k =
     used_told k es sorted ∙ ap (λ (l : Keyed). has_ids (versions_in l k)) (sym here) ∙ pieces_told kept x is table k

@@ -1,8 +1,8 @@
 -- An index of records: the ids of whatever may be sought.
 use Rattle.std.specs.Prelude.{ℕ, ◌≡◌, if◌then◌else◌, List, map}
-use Rattle.std.specs.BTreeMap.{BTreeMap, IsOrdered}
 use Rattle.std.specs.List.Sorted.{IsStrictlySortedBy}
 use Rattle.std.specs.Ordering.{nat_cmp}
+use Rattle.wm_chunks.specs.Numbers.{AreOrdered, Numbers}
 use Rattle.wm_spec.specs.declared.record.Record.{Record}
 use Rattle.wm_spec.specs.declared.record.stored.Stored.{Stored}
 use Rattle.wm_index.specs.Sought.{Sought, TheCounters, Tables, Spaces, SpaceAt, VersionAt, VersionIn, VersionsUnder, SavepointsOf, SavepointAt, KeptAs, KeptUnder, BornAs, SeenUnder, RowAt, PieceAt, TouchesAt, MarksAt, PiecesIn, OwnedBy, MarksIn, TouchAt, TurnAt, HistsOn, is_sought, ids_with, placed, without, ids_among, ids_in, number_ids, pair_order, piece_ids}
@@ -53,8 +53,8 @@ listed entries = map (λ (e : ℕ × Record). let s : Stored = record { id = e.0
 
 -- the records stand by their ids, and the index has the ids of whatever is sought among them; of each key the versions
 -- rise that have pieces of it, and so do the periods that are kept beside them, in which the cells of these pieces lie
-pub record IsIndexed (kept : BTreeMap ℕ Record) (x : Index) : Type 0 where
-  pub ordered : IsOrdered nat_cmp kept
+pub record IsIndexed (kept : Numbers Record) (x : Index) : Type 0 where
+  pub ordered : AreOrdered kept.entries
   pub told : (q : Sought) → ids_at x q ≡ ids_with (is_sought q) (listed kept.entries)
   pub nested : AllNested x.pieces.entries
   pub spanned : AllSpanned (listed kept.entries) x.pieces.entries

@@ -11,17 +11,18 @@ ghost use Rattle.wm_index.specs.Versioned.{AllNested, GainsAny, LosesAny};
 use crate::index::Index;
 use crate::kinds::table_of;
 use std::alloc::Global;
-use std::collections::BTreeMap;
 use wm_base::Memory;
+use wm_chunks::NumberMap;
 use wm_spec::record::Record;
 
-pub type Kept = BTreeMap<u64, Record>;
+/// Records under their ids.
+pub type Kept = NumberMap<Record>;
 
 /// The record of an id.
 pub fn at(kept: &Kept, id: u64) -> Option<&Record>
     ensures { option_copied result ≡ record_at (listed kept.now.entries) id }
 {
-    kept.get(&id)
+    kept.get(id)
 }
 
 /// The record of the first id.
@@ -41,8 +42,8 @@ pub fn next_id(kept: &Kept) -> Option<u64>
     ensures lowest { IfSome result (λ next. (id : ℕ) → next ≡ id + 1 → 0 < id → IsSome (record_at (listed kept.now.entries) id)) }
     ensures full { IfNone result ((id : ℕ) × (2 ^ 64 ≤ id + 1) × IsSome (record_at (listed kept.now.entries) id)) }
 {
-    match kept.last_key_value() {
-        Some(last) => last.0.checked_add(1),
+    match kept.last_number() {
+        Some(last) => last.checked_add(1),
         None => Some(1),
     }
 }
