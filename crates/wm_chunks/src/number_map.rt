@@ -19,6 +19,7 @@ type Chunks<V> = BTreeMap<u64, Vec<(u64, V)>>;
 /// Values under numbers, in ascending order.
 #[derive(Drop)]
 pub struct NumberMap<V> {
+    alloc: Global,
     chunks: Chunks<V>,
 }
 
@@ -121,6 +122,7 @@ impl<V> NumberMap<V> {
         ensures ordered { AreOrdered result.entries }
     {
         NumberMap {
+            alloc,
             chunks: BTreeMap::new(alloc),
         }
     }
@@ -142,12 +144,7 @@ impl<V> NumberMap<V> {
     }
 
     /// Sets the value of a number, and gives the one that it had. An error, that memory ran out, changes nothing.
-    pub fn insert(
-        &mut self,
-        alloc: Global,
-        number: u64,
-        value: V,
-    ) -> Result<Option<V>, AllocError>
+    pub fn insert(&mut self, number: u64, value: V) -> Result<Option<V>, AllocError>
     where
         V: Drop,
         ensures old { IfOk result (λ old. old ≡ value_at self.old.entries number) }
@@ -155,7 +152,7 @@ impl<V> NumberMap<V> {
         ensures err { OnErr result (self.new.entries ≡ self.old.entries) }
         ensures ordered { AreOrdered self.new.entries }
     {
-        put(alloc, &mut self.chunks, number, value)
+        put(self.alloc, &mut self.chunks, number, value)
     }
 
     /// Takes out the value of a number.

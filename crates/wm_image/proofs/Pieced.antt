@@ -1,12 +1,11 @@
 -- The pieces in an index, when what stands under an id is changed.
 use Rattle.std.proofs.Common.{◌≡◌, ℕ, ◌+◌, ◌==◌, ◌&&◌, ◌||◌, Bool, true, false, cond, List, [], ◌∷◌, Option, Some, None, refl, sym, ap, subst, ◌∙◌, arith}
 use Rattle.std.proofs.lemmas.Bool.{eq-eqb, eqb-true}
-use Rattle.std.specs.BTreeMap.{IsOrdered}
 use Rattle.std.specs.List.{AllByRecursion}
 use Rattle.std.specs.Option.{option_and_then, option_map_or}
 use Rattle.std.specs.Ordering.{is_eq, nat_cmp}
 use Rattle.wm_base.specs.Key.{key_order}
-use Rattle.wm_chunks.specs.Numbers.{Numbers}
+use Rattle.wm_chunks.specs.Numbers.{AreOrdered, Numbers}
 use Rattle.wm_graph.specs.Parts.{as_piece}
 use Rattle.wm_image.proofs.Listed.{Ascend-listed}
 use Rattle.wm_image.proofs.Lists.{ids_with-set, ids-sorted}
@@ -140,7 +139,7 @@ pieces_spanned kept x mid next id becomes rs is told less more set =
 
 -- ---- no records
 
-pub none_indexed : (kept : Numbers Record) (x : Index) → IsOrdered nat_cmp kept → kept.entries ≡ [] → ((q : Sought) → ids_at x q ≡ []) → x.pieces.entries ≡ [] → IsIndexed kept x
+pub none_indexed : (kept : Numbers Record) (x : Index) → AreOrdered kept.entries → kept.entries ≡ [] → ((q : Sought) → ids_at x q ≡ []) → x.pieces.entries ≡ [] → IsIndexed kept x
 none_indexed kept x ordered empty none pieces = record {
   ordered = ordered;
   told = λ q. none q ∙ ap (λ es. ids_with (is_sought q) (listed es)) (sym empty);

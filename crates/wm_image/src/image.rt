@@ -38,10 +38,10 @@ use crate::records::{apply_all, clear_all};
 use crate::shown::latest_of;
 use crate::tables::after_last;
 use std::alloc::Global;
-use std::collections::BTreeMap;
 use std::marker::Model;
 use wm_base::{Key, Memory};
 use wm_catalog::Catalog;
+use wm_chunks::NumberMap;
 use wm_index::hists::ids_by_position;
 use wm_index::ids::{are_empty, first_id};
 use wm_index::index::Index;
@@ -91,7 +91,7 @@ impl Image {
         ensures { result ≡ [] }
     {
         Image {
-            kept: BTreeMap::new(alloc),
+            kept: NumberMap::new(alloc),
             index: Index::new(alloc),
             hops: Hops::new(alloc),
             catalog: Catalog::new(alloc),
@@ -119,7 +119,7 @@ impl Image {
         requires { Ascend records }
         ensures { IfOk result (λ image. image ≡ records) }
     {
-        let mut kept = BTreeMap::new(alloc);
+        let mut kept = NumberMap::new(alloc);
         let mut index = Index::new(alloc);
         let mut hops = Hops::new(alloc);
         match put_with_catalog(alloc, &mut kept, &mut index, &mut hops, records) {

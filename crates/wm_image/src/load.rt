@@ -12,15 +12,15 @@ ghost use Rattle.wm_spec.specs.declared.record.stored.Stored.{Stored as OneStore
 ghost use Rattle.wm_state.specs.ById.{Ascend, by_id, set_at};
 
 use crate::hops::Hops;
-use crate::records::{change_one, set};
+use crate::records::change_one;
 use crate::tables::catalog_of;
 use std::alloc::Global;
 use std::collections::BTreeMap;
 use wm_base::Memory;
 use wm_catalog::Catalog;
 use wm_index::index::Index;
-use wm_index::records::{Kept, at};
-use wm_spec::record::{Records, Stored};
+use wm_index::records::Kept;
+use wm_spec::record::{Record, Records, Stored};
 
 /// Why records make no image.
 #[derive(Clone, Copy, Debug, PartialEq)]
@@ -38,24 +38,44 @@ impl From<Memory> for ImageFault {
     }
 }
 
+/// Records under their ids, while they are gathered.
+type Gathered = BTreeMap<u64, Record>;
+
+/// Whether an id has a record.
+fn has(kept: &Gathered, id: u64) -> bool
+    ensures { result ≡ is_some (record_at (listed kept.now.entries) id) }
+{
+    kept.contains_key(&id)
+}
+
+/// Puts a record under its id.
+fn keep(kept: &mut Gathered, one: Stored) -> Result<(), Memory>
+    requires { IsOrdered nat_cmp kept.old }
+    ensures listed { OnOk result (listed kept.new.entries ≡ set_at one.id (Some one.record) (listed kept.old.entries)) }
+    ensures ordered { OnOk result (IsOrdered nat_cmp kept.new) }
+{
+    kept.insert(one.id, one.record)?;
+    Ok(())
+}
+
 /// Puts a record under its id, where none stands there.
-fn put_new(kept: &mut Kept, one: Stored) -> Result<(), ImageFault>
+fn put_new(kept: &mut Gathered, one: Stored) -> Result<(), ImageFault>
     requires { IsOrdered nat_cmp kept.old }
     ensures fresh { OnOk result (record_at (listed kept.old.entries) one.id ≡ None) }
     ensures listed { OnOk result (listed kept.new.entries ≡ set_at one.id (Some one.record) (listed kept.old.entries)) }
     ensures ordered { OnOk result (IsOrdered nat_cmp kept.new) }
     ensures twice { IfErr result (λ fault. fault ≡ ImageFault.Graph → is_some (record_at (listed kept.old.entries) one.id) ≡ true) }
 {
-    if at(kept, one.id).is_some() {
+    if has(kept, one.id) {
         drop(one);
         return Err(ImageFault::Graph);
     }
-    set(kept, one.id, Some(one.record))?;
+    keep(kept, one)?;
     Ok(())
 }
 
 /// The records under their ids.
-fn gather(alloc: Global, records: Records) -> Result<Kept, ImageFault>
+fn gather(alloc: Global, records: Records) -> Result<Gathered, ImageFault>
     ensures listed { IfOk result (λ kept. listed kept.entries ≡ by_id records) }
     ensures ordered { IfOk result (λ kept. IsOrdered nat_cmp kept) }
     ensures differ { IfOk result (λ kept. AreRecords records) }
@@ -82,7 +102,7 @@ pub fn sorted(alloc: Global, records: Records) -> Result<Records, ImageFault>
 }
 
 /// The records of a map, in its order.
-fn list_of(alloc: Global, kept: Kept) -> Result<Records, Memory>
+fn list_of(alloc: Global, kept: Gathered) -> Result<Records, Memory>
     ensures { IfOk result (λ list. list ≡ listed kept.entries) }
 {
     let mut list = Vec::with_capacity(alloc, kept.len())?;

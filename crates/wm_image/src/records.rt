@@ -1,8 +1,7 @@
 //! Records under their ids, with the index of them, changed one by one and by batches.
 
 ghost use Rattle.std.specs.Prelude.{◌≡◌, ℕ, [], false, IfOk, OnOk};
-ghost use Rattle.std.specs.BTreeMap.{BTreeMap as Map, IsOrdered};
-ghost use Rattle.std.specs.Ordering.{nat_cmp};
+ghost use Rattle.wm_chunks.specs.Numbers.{AreOrdered, Numbers};
 ghost use Rattle.wm_graph.specs.Parts.{parts_of};
 ghost use Rattle.wm_state.specs.ById.{applied, set_at};
 ghost use Rattle.wm_index.specs.Indexed.{listed, IsIndexed};
@@ -13,20 +12,20 @@ ghost use Rattle.wm_spec.specs.declared.record.Record.{Record as OneRecord};
 use crate::hops::Hops;
 use crate::tables::catalog_of;
 use std::alloc::Global;
-use std::collections::BTreeMap;
 use std::mem::replace;
 use wm_base::Memory;
 use wm_catalog::Catalog;
+use wm_chunks::NumberMap;
 use wm_index::index::Index;
 use wm_index::kinds::version_of;
 use wm_index::records::{Kept, add_new, at, drop_old, is_either};
 use wm_spec::record::{Changes, Record};
 
 /// Sets what becomes of an id.
-pub fn set(kept: &mut Kept, id: u64, becomes: Option<Record>) -> Result<(), Memory>
-    requires { IsOrdered nat_cmp kept.old }
+fn set(kept: &mut Kept, id: u64, becomes: Option<Record>) -> Result<(), Memory>
+    requires { AreOrdered kept.old.entries }
     ensures listed { OnOk result (listed kept.new.entries ≡ set_at id becomes (listed kept.old.entries)) }
-    ensures ordered { OnOk result (IsOrdered nat_cmp kept.new) }
+    ensures ordered { OnOk result (AreOrdered kept.new.entries) }
 {
     match becomes {
         Some(new) => {
@@ -34,7 +33,7 @@ pub fn set(kept: &mut Kept, id: u64, becomes: Option<Record>) -> Result<(), Memo
             drop(before);
         }
         None => {
-            drop(kept.remove(&id));
+            drop(kept.remove(id));
         }
     }
     Ok(())
@@ -50,7 +49,7 @@ fn reindex(
     becomes: &Option<Record>,
 ) -> Result<bool, Memory>
     requires { IsIndexed kept.now index.old }
-    ensures indexed { OnOk result ((next : Map ℕ OneRecord) → IsOrdered nat_cmp next → listed next.entries ≡ set_at id becomes.now (listed kept.now.entries) → IsIndexed next index.new) }
+    ensures indexed { OnOk result ((next : Numbers OneRecord) → AreOrdered next.entries → listed next.entries ≡ set_at id becomes.now (listed kept.now.entries) → IsIndexed next index.new) }
     ensures tables { IfOk result (λ touched. touched ≡ false → (parts_of (set_at id becomes.now (listed kept.now.entries))).tables ≡ (parts_of (listed kept.now.entries)).tables) }
 {
     let stood = drop_old(alloc, kept, index, id)?;
@@ -168,7 +167,7 @@ pub fn clear_all(
     ensures hops { AreHops (parts_of (listed kept.new.entries)).versions hops.new }
     ensures tables { IsCatalog (listed kept.new.entries) catalog.new }
 {
-    drop(replace(kept, BTreeMap::new(alloc)));
+    drop(replace(kept, NumberMap::new(alloc)));
     drop(replace(index, Index::new(alloc)));
     drop(replace(hops, Hops::new(alloc)));
     drop(replace(catalog, Catalog::new(alloc)));

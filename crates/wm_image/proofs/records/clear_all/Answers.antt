@@ -1,4 +1,3 @@
-use Rattle.std.proofs.Common.{rules}
 use Rattle.wm_image.proofs.Cataloguing.{no_catalog}
 use Rattle.wm_image.proofs.Hopping.{no_hops}
 use Rattle.wm_image.proofs.Pieced.{none_indexed}
@@ -7,7 +6,7 @@ use Rattle.wm_image.proofs.records.clear_all.Goals as goal
 pub returns-clause-indexed : goal.returns-clause-indexed
 returns-clause-indexed c =
     rw (c.replace.ensures.after, c.replace-2.ensures.after)
-    (none_indexed c.new.result c.new-2.result (search rules) c.new.ensures.empty c.new-2.ensures.ids c.new-2.ensures.pieces)
+    (none_indexed c.new.result c.new-2.result c.new.ensures.ordered c.new.ensures.empty c.new-2.ensures.ids c.new-2.ensures.pieces)
 
 pub returns-clause-hops : goal.returns-clause-hops
 returns-clause-hops c = rw (c.replace.ensures.after, c.replace-3.ensures.after) (no_hops c.new.result.entries c.new-3.result c.new.ensures.empty c.new-3.ensures)

@@ -5,8 +5,8 @@ use Rattle.wm_image.proofs.records.set.Goals as goal
 pub returns-in_ok-before-in-Some-clause-listed : goal.returns-in_ok-before-in-Some-clause-listed
 returns-in_ok-before-in-Some-clause-listed c =
     rw c.in-Some.is
-    (listed-set c.args.kept.now.entries c.insert.new.self.entries c.args.id (Some c.in-Some.new) c.requires c.in_ok-before-in-Some.ensures.ordered c.in_ok-before-in-Some.ensures.updates.0)
+    (listed-set c.args.kept.now.entries c.insert.new.self.entries c.args.id (Some c.in-Some.new) c.requires c.insert.ensures.ordered c.in_ok-before-in-Some.ensures.sets)
 
 pub returns-in-None-clause-listed : goal.returns-in-None-clause-listed
 returns-in-None-clause-listed c =
-    rw c.in-None.is (listed-set c.args.kept.now.entries c.remove.new.self.entries c.args.id None c.requires c.remove.ensures.ordered c.remove.ensures.updates.0)
+    rw c.in-None.is (listed-set c.args.kept.now.entries c.remove.new.self.entries c.args.id None c.requires c.remove.ensures.ordered c.remove.ensures.sets)

@@ -1,14 +1,10 @@
-use Rattle.std.proofs.Common.{rules}
-use Rattle.std.specs.BTreeMap.{IsOrdered}
-use Rattle.std.specs.Ordering.{nat_cmp}
 use Rattle.wm_image.proofs.Hopping.{no_hops}
 use Rattle.wm_image.proofs.Pieced.{none_indexed}
 use Rattle.wm_image.proofs.image.Image.of.Goals as goal
 
 pub put_with_catalog-requires-clause-indexed : goal.put_with_catalog-requires-clause-indexed
 put_with_catalog-requires-clause-indexed c =
-    let ordered : IsOrdered nat_cmp c.new-kept.result = search rules in
-    none_indexed c.new-kept.result c.new-index.result ordered c.new-kept.ensures.empty c.new-index.ensures.ids c.new-index.ensures.pieces
+    none_indexed c.new-kept.result c.new-index.result c.new-kept.ensures.ordered c.new-kept.ensures.empty c.new-index.ensures.ids c.new-index.ensures.pieces
 
 pub put_with_catalog-requires-clause-hops : goal.put_with_catalog-requires-clause-hops
 put_with_catalog-requires-clause-hops c = no_hops c.new-kept.result.entries c.new-hops.result c.new-kept.ensures.empty c.new-hops.ensures
