@@ -2,16 +2,17 @@
 ghost use Rattle.std.specs.Prelude.{◌≡◌, ℕ, Some, None, ◌==◌, if◌then◌else◌, OnOk, OnErr};
 ghost use Rattle.wm_heap.specs.Places.{at};
 
-use std::collections::BTreeMap;
 use wm_base::Memory;
+use wm_chunks::NumberMap;
 
-pub type Places = BTreeMap<u64, u64>;
+/// The page of each id.
+pub type Places = NumberMap<u64>;
 
 /// The page that an id is on.
 pub fn page_of(places: &Places, id: u64) -> Option<u64>
     ensures { result ≡ at places.now.entries id }
 {
-    places.get(&id).copied()
+    places.get(id).copied()
 }
 
 pub fn set_page_of(places: &mut Places, id: u64, page: u64) -> Result<(), Memory>
@@ -25,5 +26,5 @@ pub fn set_page_of(places: &mut Places, id: u64, page: u64) -> Result<(), Memory
 pub fn clear_page_of(places: &mut Places, id: u64)
     ensures { (j : ℕ) → at places.new.entries j ≡ (if j == id then None else at places.old.entries j) }
 {
-    let _ = places.remove(&id);
+    let _ = places.remove(id);
 }
