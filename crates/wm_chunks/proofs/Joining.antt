@@ -35,9 +35,11 @@ chunks_from : {V : Type 0} (low : ℕ) (cs : List (ℕ × Vec (ℕ × V) Global)
     → ((place : ℕ) (d : Vec (ℕ × V) Global) → lookup (is_at (nat_cmp place)) cs ≡ Some d → IsChunk place d.items) → ChunksFrom low cs
 chunks_from low [] sorted least own = tt
 chunks_from {V} low (c ∷ cs) sorted least own =
-    let over = sorted_head nat_cmp c.0 (keys_of cs) sorted in
-    (least.0, own c.0 c.1 (ap (λ b. cond b (Some c.1) (lookup (is_at (nat_cmp c.0)) cs)) (is_at-same c.0 c.0 refl)),
-    chunks_from (c.0 + 1) cs (sorted_tail nat_cmp c.0 (keys_of cs) sorted) (above cs over) (λ place d is. own place d (later c cs place d over is)))
+    let over = sorted_head nat_cmp c.0 (keys_of cs) sorted in (
+      least.0,
+      own c.0 c.1 (ap (λ b. cond b (Some c.1) (lookup (is_at (nat_cmp c.0)) cs)) (is_at-same c.0 c.0 refl)),
+      chunks_from (c.0 + 1) cs (sorted_tail nat_cmp c.0 (keys_of cs) sorted) (above cs over) (λ place d is. own place d (later c cs place d over is)),
+    )
   where
     above : (ds : List (ℕ × Vec (ℕ × V) Global)) → AllByRecursion (λ k. nat_cmp c.0 k ≡ Less) (keys_of ds) → AllByRecursion (λ k. c.0 + 1 ≤ k) (keys_of ds)
     above [] over = tt
