@@ -1,3 +1,4 @@
+pub mod Altering
 pub mod Finding
 pub mod First
 pub mod Getting

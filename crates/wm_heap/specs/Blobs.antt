@@ -1,5 +1,5 @@
 -- What is to become of the bytes under some ids.
-use Rattle.std.specs.Prelude.{◌≡◌, ℕ, ◌≤◌, Bool, true, ◌||◌, ◌==◌, if◌then◌else◌, List, [], ◌∷◌, ◌++◌, map, length, Option, Some, None, is_some, IsSome, IfSome}
+use Rattle.std.specs.Prelude.{◌≡◌, ℕ, ◌<◌, ◌≤◌, true, false, ◌==◌, if◌then◌else◌, List, [], ◌∷◌, ◌++◌, map, length, slice_index, Option, Some, None, IfSome}
 use Rattle.std.specs.List.{list_any}
 use Rattle.wm_spec.specs.Records.{ids_differ}
 use Rattle.wm_heap.specs.declared.blob.Blob.{Blob}
@@ -24,11 +24,6 @@ abbrev pub AreSmall : List Blob → Type 0
 AreSmall [] = Unit {0}
 AreSmall (b ∷ blobs) = IfSome b.bytes (λ bytes. length bytes ≤ 4084) × AreSmall blobs
 
--- none drops its record
-abbrev pub AllPut : List Blob → Type 0
-AllPut [] = Unit {0}
-AllPut (b ∷ blobs) = IsSome b.bytes × AllPut blobs
-
 -- the slot of an id, where it has bytes
 abbrev pub slots_of_bytes : ℕ → Option (List ℕ) → List Slot
 slots_of_bytes id None = []
@@ -39,6 +34,17 @@ abbrev pub slots_put : List Blob → List Slot
 slots_put [] = []
 slots_put (b ∷ blobs) = slots_of_bytes b.id b.bytes ++ slots_put blobs
 
--- one of them puts bytes, or drops some that are there
-abbrev pub change_something : (ℕ → Bool) → List Blob → Bool
-change_something there blobs = list_any (λ b. is_some b.bytes || there b.id) blobs
+-- each of them that is of none of these ids says what stands there already
+abbrev pub AlterOnly : List ℕ → (ℕ → Option (List ℕ)) → List Blob → Type 0
+AlterOnly ids standing [] = Unit {0}
+AlterOnly ids standing (b ∷ blobs) = (list_any (λ k. k == b.id) ids ≡ false → standing b.id ≡ b.bytes) × AlterOnly ids standing blobs
+
+-- each item is a byte, where there are some
+abbrev pub AreBytes : Option (List ℕ) → Type 0
+AreBytes None = Unit {0}
+AreBytes (Some bytes) = (i : ℕ) → slice_index bytes i < 256
+
+-- what stands under the id of each of them are bytes
+abbrev pub OverBytes : (ℕ → Option (List ℕ)) → List Blob → Type 0
+OverBytes standing [] = Unit {0}
+OverBytes standing (b ∷ blobs) = AreBytes (standing b.id) × OverBytes standing blobs

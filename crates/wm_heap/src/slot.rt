@@ -1,8 +1,10 @@
 //! The slots of a page.
-ghost use Rattle.std.specs.Prelude.{◌≡◌, ◌+◌, ◌-◌, ◌<◌, ◌≤◌, false, IsTrue, ◌∷◌, [], ◌++◌, length, filter, not, ◌==◌, Some, OnOk, OnErr, IfOk};
+ghost use Rattle.std.specs.Prelude.{◌≡◌, ◌+◌, ◌-◌, ◌<◌, ◌≤◌, false, IsTrue, ◌∷◌, [], ◌++◌, length, filter, not, ◌==◌, ◌↔◌, ℕ, slice_index, Some, OnOk, OnErr, IfOk};
 ghost use Rattle.wm_heap.specs.Slots.{used};
 ghost use Rattle.wm_heap.specs.Content.{bytes_at};
+ghost use Rattle.wm_heap.specs.Blobs.{AreBytes};
 
+use crate::blob::Blob;
 use std::alloc::Global;
 use std::marker::Model;
 use wm_base::{Bytes, Memory};
@@ -83,6 +85,19 @@ impl Slots {
         Ok(None)
     }
 
+    /// Whether what is to stand under an id stands there: the same bytes, or none.
+    pub fn hold(&self, blob: &Blob) -> bool
+        ensures same { IsTrue result ↔ (bytes_at self.now blob.now.id ≡ blob.now.bytes) }
+        ensures bytes { AreBytes (bytes_at self.now blob.now.id) }
+    {
+        for slot in self.as_slice() {
+            if slot.id == blob.id {
+                return are_bytes(&slot.bytes, &blob.bytes);
+            }
+        }
+        blob.bytes.is_none()
+    }
+
     /// How many bytes of a page they leave.
     pub fn left(&self) -> usize
         ensures { result ≡ 4096 - used self.now }
@@ -103,6 +118,18 @@ impl Slots {
             return false;
         }
         10 + len <= self.left()
+    }
+}
+
+/// Whether there are bytes, and they are these.
+fn are_bytes(these: &Bytes, bytes: &Option<Bytes>) -> bool
+    ensures same { IsTrue result ↔ (bytes.now ≡ Some these.now) }
+    ensures bytes { (i : ℕ) → slice_index these.now i < 256 }
+{
+    let these = these.as_slice();
+    match bytes {
+        Some(bytes) => bytes.as_slice() == these,
+        None => false,
     }
 }
 

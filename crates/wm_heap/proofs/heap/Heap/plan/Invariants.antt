@@ -1,4 +1,6 @@
 use Rattle.std.proofs.Common.{◌≡◌, ◌*◌, ◌≤◌, length}
+use Rattle.wm_heap.specs.Content.{bytes_at, content}
+use Rattle.wm_heap.proofs.Altering.{Altering}
 use Rattle.wm_heap.proofs.Planning.{Going, Telling}
 use Rattle.wm_heap.proofs.heap.Heap.plan.Given as goal
 
@@ -14,4 +16,5 @@ invariant-loop-blob g l = record {
   in_file : g.G.Pages.in_file l.pages ≡ g.G.Pages.in_file l.fn.pages;
   faults : g.G.Pages.faults l.pages ≡ g.G.Pages.faults l.fn.pages;
   telling : g.G.Pages.tells → Telling l.self l.changed.entries (g.G.Pages.held l.fn.pages) (g.G.Pages.in_use l.fn.pages) (g.G.Pages.in_file l.fn.pages) l.fn.batch l.blob-index;
+  altering : g.G.Pages.tells → Altering l.self l.changed.entries (g.G.Pages.held l.fn.pages) (bytes_at (content (g.G.Pages.held l.fn.pages) (g.G.Pages.in_use l.fn.pages))) l.fn.batch l.blob-index;
 }
