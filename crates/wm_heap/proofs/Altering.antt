@@ -14,6 +14,7 @@ use Rattle.wm_heap.specs.Blobs.{blob_at, AreBlobs, AlterOnly, AreBytes, OverByte
 use Rattle.wm_heap.specs.Content.{bytes_at, slots_in, content}
 use Rattle.wm_heap.specs.Draft.{bytes_now, Grows, Done, Alters, paged}
 use Rattle.wm_heap.specs.Places.{place_of, page_count, IsHeapOf}
+use Rattle.wm_heap.specs.Plan.{PutsFew}
 use Rattle.wm_heap.proofs.Planning.{AreBlobs-rest, head_named, paged_none, planned_few}
 use Rattle.wm_heap.proofs.Upto.{bytes_at-all}
 
@@ -135,20 +136,18 @@ altering_on heap new was now held in_use in_file standing blobs i b within is on
 
 -- ---- as the calls say it
 
-pub altered_few : (heap : Heap) (changed : List (ℕ × List Slot)) (held : ℕ → List ℕ) (standing : ℕ → Option (List ℕ)) (blobs : List Blob) (i before count : ℕ) (pages : List PageWrite) → entries pages ≡ paged before count changed → length blobs ≤ i → AreBlobs blobs
-    → Altering heap changed held standing blobs i → (ids : List ℕ) → AlterOnly ids standing blobs → length pages ≤ 2 * length ids + 2
-altered_few heap changed held standing blobs i before count pages pages_are end once altering ids only =
-    let all : take i blobs ≡ blobs = take_all i blobs end in
-    let few : length changed ≤ 2 * length (filter (is_among ids) blobs) = subst (λ bs. length changed ≤ 2 * length (filter (is_among ids) bs)) all (altering.few ids only) in
-    planned_few changed before count (length (filter (is_among ids) blobs)) (length ids) pages pages_are few (among_few ids blobs once)
-
--- no page is put exactly where none of them alters anything
-pub altered_none : (old heap : Heap) (changed : List (ℕ × List Slot)) (held : ℕ → List ℕ) (standing : ℕ → Option (List ℕ)) (blobs : List Blob) (i before count : ℕ) (pages : List PageWrite) → before ≡ page_count old → count ≡ page_count heap → entries pages ≡ paged before count changed
-    → length blobs ≤ i → Grows (page_count old) (page_count heap) [] changed → Altering heap changed held standing blobs i → (pages ≡ [] → AlterOnly [] standing blobs) × (AlterOnly [] standing blobs → pages ≡ [])
-altered_none old heap changed held standing blobs i before count pages before_is count_is pages_are end grows altering = (
-  λ none. subst (AlterOnly [] standing) all (altering.none (empty changed (sym counted ∙ ap (λ (ps : List PageWrite). eqb (length ps) 0) none))),
-  λ only. empty pages (counted ∙ (let few : length changed ≤ 2 * length (filter (is_among []) (take i blobs)) = altering.few [] only in let zero_is = none_among (take i blobs) in grind (arith, few, zero_is))),
-)
+pub altered : (old heap : Heap) (changed : List (ℕ × List Slot)) (held : ℕ → List ℕ) (standing : ℕ → Option (List ℕ)) (blobs : List Blob) (i before count : ℕ) (pages : List PageWrite) → before ≡ page_count old → count ≡ page_count heap → entries pages ≡ paged before count changed
+    → length blobs ≤ i → AreBlobs blobs → Grows (page_count old) (page_count heap) [] changed → Altering heap changed held standing blobs i → PutsFew blobs pages standing
+altered old heap changed held standing blobs i before count pages before_is count_is pages_are end once grows altering = record {
+  none = (
+    λ none. subst (AlterOnly [] standing) all (altering.none (empty changed (sym counted ∙ ap (λ (ps : List PageWrite). eqb (length ps) 0) none))),
+    λ only. empty pages (counted ∙ (let few : length changed ≤ 2 * length (filter (is_among []) (take i blobs)) = altering.few [] only in let zero_is = none_among (take i blobs) in grind (arith, few, zero_is))),
+  );
+  few = λ ids only.
+      planned_few changed before count (length (filter (is_among ids) blobs)) (length ids) pages pages_are
+      (subst (λ bs. length changed ≤ 2 * length (filter (is_among ids) bs)) all (altering.few ids only)) (among_few ids blobs once);
+  read = subst (OverBytes standing) all altering.read;
+}
   where
     all : take i blobs ≡ blobs
     all = take_all i blobs end

@@ -1,13 +1,12 @@
 //! The heap: where each record stands.
-ghost use Rattle.std.specs.Prelude.{◌≡◌, ℕ, ◌+◌, ◌*◌, ◌<◌, ◌≤◌, ◌↔◌, ◌++◌, [], true, List, length, is_some, IfOk, IsErrOf, OnOk};
+ghost use Rattle.std.specs.Prelude.{◌≡◌, ℕ, ◌+◌, ◌*◌, ◌<◌, ◌≤◌, ◌++◌, length, is_some, IfOk, IsErrOf, OnOk};
 ghost use Rattle.wm_base.specs.declared.fault.StoreFault.TheVariants as faults;
 ghost use Rattle.wm_page.specs.Batch.{entries};
 ghost use Rattle.wm_page.specs.Cause.{StoreCause};
-ghost use Rattle.wm_heap.specs.Blobs.{AlterOnly, AreBlobs, AreSmall, OverBytes};
+ghost use Rattle.wm_heap.specs.Blobs.{AreBlobs, AreSmall};
 ghost use Rattle.wm_heap.specs.Content.{content, bytes_at};
 ghost use Rattle.wm_heap.specs.Places.{place_of, page_count, spots_of, spots_on, IsHeapOf};
-ghost use Rattle.wm_heap.specs.Plan.{root_of, IsPlan, IsChanged};
-ghost use Rattle.wm_heap.specs.Slots.{page_of, used};
+ghost use Rattle.wm_heap.specs.Plan.{IsPlan, IsChanged, PutsFew};
 
 use crate::blob::{Blob, Blobs};
 use crate::draft::{Changed, page_batch};
@@ -96,10 +95,8 @@ impl Heap {
         requires heap { G.tells → IsHeapOf self.old (G.held pages.old) (G.in_use pages.old) }
         requires whole { G.tells → G.in_use pages.old ≤ G.in_file pages.old }
         ensures plan { IfOk result (λ b. IsPlan (page_count self.old) (page_count self.new) (entries b.pages)) }
-        ensures nothing { G.tells → IfOk result (λ b. (b.pages ≡ []) ↔ AlterOnly [] (bytes_at (content (G.held pages.old) (G.in_use pages.old))) batch.now) }
         ensures few { IfOk result (λ b. length b.pages ≤ 2 * length batch.now + 2) }
-        ensures altered { G.tells → IfOk result (λ b. (ids : List ℕ) → AlterOnly ids (bytes_at (content (G.held pages.old) (G.in_use pages.old))) batch.now → length b.pages ≤ 2 * length ids + 2) }
-        ensures read { G.tells → OnOk result (OverBytes (bytes_at (content (G.held pages.old) (G.in_use pages.old))) batch.now) }
+        ensures altered { G.tells → IfOk result (λ b. PutsFew batch.now b.pages (bytes_at (content (G.held pages.old) (G.in_use pages.old)))) }
         ensures changed { G.tells → IfOk result (λ b. IsChanged self.new batch.now (entries b.pages) (G.held pages.old) (G.in_use pages.old)) }
         ensures told { G.tells → G.held pages.new ≡ G.held pages.old }
         ensures past { G.tells → G.past pages.new ≡ G.past pages.old }

@@ -1,65 +1,68 @@
--- A batch that changes no record plans no page.
-use Rattle.std.proofs.Common.{◌≡◌, ℕ, ◌-◌, ◌≤◌, Bool, true, false, not, eqb, List, [], ◌∷◌, length, Option, Some, None, is_some, Ok, refl, sym, ap, ◌∙◌, arith}
+-- A batch alters the bytes of those records alone that it changes.
+use Rattle.std.proofs.Common.{◌≡◌, ℕ, ◌+◌, ◌*◌, ◌-◌, ◌≤◌, true, List, [], ◌∷◌, length, Option, Some, None, is_some, Ok, refl, sym, ap, subst, ◌∙◌, arith}
 use Rattle.std.specs.Option.{option_and_then, option_map}
+use Rattle.wm_spec.specs.declared.record.Record.{Record}
 use Rattle.wm_spec.specs.declared.record.stored.Stored.{Stored}
 use Rattle.wm_spec.specs.declared.record.batch.Change.{Change}
 use Rattle.wm_spec.specs.Records.{record_at}
+use Rattle.wm_page.proofs.Batches.{length-entries}
+use Rattle.wm_page.specs.Batch.{entries}
 use Rattle.wm_page.specs.declared.write.PageWrite.{PageWrite}
 use Rattle.wm_codec.specs.Reading.{record_of}
 use Rattle.wm_codec.specs.Spelling.{spelling}
+use Rattle.wm_codec.proofs.Exact.{IsBytes}
+use Rattle.wm_codec.proofs.ExactRecords.{record_takes}
 use Rattle.wm_station.specs.History.{History, now}
 use Rattle.wm_journal.specs.Disk.{page}
 use Rattle.wm_journal.specs.Store.{IsAtRest}
 use Rattle.wm_heap.specs.declared.blob.Blob.{Blob}
-use Rattle.wm_heap.specs.declared.heap.Heap.{Heap}
 use Rattle.wm_heap.specs.declared.slot.Slot.{Slot}
-use Rattle.wm_heap.specs.Blobs.{change_something}
+use Rattle.wm_heap.specs.Blobs.{AlterOnly, AreBytes, OverBytes}
 use Rattle.wm_heap.specs.Content.{bytes_at, slots_in, content}
-use Rattle.wm_heap.specs.Places.{place_of, IsHeapOf}
-use Rattle.wm_heap.proofs.Getting.{bytes_there, page_there}
+use Rattle.wm_heap.specs.Plan.{PutsFew}
 use Rattle.wm_store.specs.Opened.{records_in, are_records, opened}
 use Rattle.wm_store.specs.Spelled.{blobs_of}
-use Rattle.wm_store.specs.Stores.{ChangesNothing}
+use Rattle.wm_store.specs.Stores.{ChangesNothing, ChangesOnly}
 use Rattle.wm_store.proofs.Reading.{record_at-records_in, bytes_read, unread_none}
 use Rattle.wm_store.proofs.Opening.{passed}
 use Rattle.wm_store.proofs.Storing.{pages_held}
 
--- an id with no record has no bytes
-no_bytes : (slots : List Slot) (id : ℕ) → are_records slots ≡ true → record_at (records_in slots) id ≡ None → bytes_at slots id ≡ None
-no_bytes slots id all none = by_case (bytes_at slots id) refl (sym (record_at-records_in slots id all) ∙ none)
+-- where a record is what it was, so are its bytes: a record has one spelling
+same_bytes : (slots : List Slot) (records : List Stored) (id : ℕ) (becomes : Option Record) → are_records slots ≡ true → records_in slots ≡ records → AreBytes (bytes_at slots id) → record_at records id ≡ becomes → bytes_at slots id ≡ option_map spelling becomes
+same_bytes slots records id becomes all is read says =
+    by_bytes (bytes_at slots id) refl read (sym (record_at-records_in slots id all) ∙ ap (λ l. record_at l id) is ∙ says)
   where
-    by_case : (o : Option (List ℕ)) → bytes_at slots id ≡ o → option_and_then record_of o ≡ None → o ≡ None
-    by_case None e f = refl
-    by_case (Some bytes) e f = absurd (let good : is_some (record_of bytes) ≡ true = bytes_read slots id bytes all e in let bad : is_some (record_of bytes) ≡ false = ap is_some f in cc)
+    by_record : (bytes : List ℕ) (o : Option Record) → record_of bytes ≡ o → is_some o ≡ true → IsBytes bytes → o ≡ becomes → Some bytes ≡ option_map spelling becomes
+    by_record bytes None e some are f = absurd cc
+    by_record bytes (Some r) e some are f = ap (λ b. Some b) (record_takes bytes r are e).1 ∙ ap (λ o. option_map spelling o) f
 
--- and no place
-no_place : (heap : Heap) (pages : ℕ → List ℕ) (count id : ℕ) → IsHeapOf heap pages count → bytes_at (content pages count) id ≡ None → is_some (place_of heap id) ≡ false
-no_place heap pages count id is_heap none = by_case (place_of heap id) refl
-  where
-    by_case : (o : Option ℕ) → place_of heap id ≡ o → is_some o ≡ false
-    by_case None e = refl
-    by_case (Some p) e =
-        absurd (let there : is_some (bytes_at (slots_in pages p) id) ≡ true = (page_there heap pages count id p is_heap e).2 in
-        let nowhere : bytes_at (slots_in pages p) id ≡ None = sym (bytes_there heap pages count id p is_heap e) ∙ none in
-        let bad : is_some (bytes_at (slots_in pages p) id) ≡ false = ap is_some nowhere in
-        cc)
+    by_bytes : (o : Option (List ℕ)) → bytes_at slots id ≡ o → AreBytes o → option_and_then record_of o ≡ becomes → o ≡ option_map spelling becomes
+    by_bytes None e are f = ap (λ o. option_map spelling o) f
+    by_bytes (Some bytes) e are f = by_record bytes (record_of bytes) refl (bytes_read slots id bytes all e) are f
 
-drops_none : (there : ℕ → Bool) (records : List Stored) (changes : List Change) → ((id : ℕ) → record_at records id ≡ None → there id ≡ false) → ChangesNothing records changes → change_something there (blobs_of changes) ≡ false
-drops_none there records [] absent nothing = refl
-drops_none there records (c ∷ changes) absent nothing =
-    let dropped : is_some (option_map spelling c.becomes) ≡ false = ap (λ o. is_some (option_map spelling o)) nothing.0 in
-    let gone : there c.id ≡ false = absent c.id nothing.1 in
-    rw (dropped, gone) (drops_none there records changes absent nothing.2)
+alters_only : (ids : List ℕ) (slots : List Slot) (records : List Stored) (changes : List Change) → are_records slots ≡ true → records_in slots ≡ records → OverBytes (bytes_at slots) (blobs_of changes) → ChangesOnly ids records changes → AlterOnly ids (bytes_at slots) (blobs_of changes)
+alters_only ids slots records [] all is over only = tt
+alters_only ids slots records (c ∷ changes) all is over only =
+    (λ out. same_bytes slots records c.id c.becomes all is over.0 (only.0 out), alters_only ids slots records changes all is over.1 only.1)
 
-no_pages : (pages : List PageWrite) (changing : Bool) → eqb (length pages) 0 ≡ not changing → changing ≡ false → pages ≡ []
-no_pages [] changing e f = refl
-no_pages (w ∷ pages) changing e f = absurd (let t : eqb (length (w ∷ pages)) 0 ≡ true = e ∙ ap not f in grind arith)
+-- ---- as the calls say it
 
--- as the calls say it
-pub nothing_planned : (old : History) (heap : Heap) (before : ℕ) (changes slice : List Change) (blobs : List Blob) (pages : List PageWrite) (records : List Stored) → IsAtRest old before → 3 ≤ before → IsHeapOf heap (page (now old)) before → opened (now old) ≡ Ok records
-    → ChangesNothing records changes → slice ≡ changes → blobs ≡ blobs_of slice → eqb (length pages) 0 ≡ not (change_something (λ id. is_some (place_of heap id)) blobs) → pages ≡ []
-nothing_planned old heap before changes slice blobs pages records rests enough is_heap opens nothing slice_is blobs_are planned =
-    let was = passed (page (now old)) before before records (pages_held old before records rests enough opens) in
-    let read : are_records (content (page (now old)) before) ≡ true = unread_none (slots_in (page (now old))) (before - 2) was.read in
-    let absent : (id : ℕ) → record_at records id ≡ None → is_some (place_of heap id) ≡ false = λ id none. no_place heap (page (now old)) before id is_heap (no_bytes (content (page (now old)) before) id read (ap (λ l. record_at l id) was.are ∙ none)) in
-    no_pages pages (change_something (λ id. is_some (place_of heap id)) blobs) planned (ap (λ bs. change_something (λ id. is_some (place_of heap id)) bs) (blobs_are ∙ ap blobs_of slice_is) ∙ drops_none (λ id. is_some (place_of heap id)) records changes absent nothing)
+planned_only : (old : History) (before count : ℕ) (changes slice : List Change) (blobs : List Blob) (pages : List PageWrite) (records : List Stored) → IsAtRest old before → 3 ≤ count → count ≡ before → opened (now old) ≡ Ok records → slice ≡ changes → blobs ≡ blobs_of slice
+    → PutsFew blobs pages (bytes_at (content (page (now old)) count)) → (ids : List ℕ) → ChangesOnly ids records changes → AlterOnly ids (bytes_at (content (page (now old)) count)) blobs
+planned_only old before count changes slice blobs pages records rests enough count_is opens slice_is blobs_are puts ids only =
+    let was = passed (page (now old)) count count records (pages_held old count records (subst (λ n. IsAtRest old n) (sym count_is) rests) enough opens) in
+    let are : blobs ≡ blobs_of changes = blobs_are ∙ ap blobs_of slice_is in
+    subst (AlterOnly ids (bytes_at (content (page (now old)) count))) (sym are)
+    (alters_only ids (content (page (now old)) count) records changes (unread_none (slots_in (page (now old))) (count - 2) was.read) was.are (subst (OverBytes (bytes_at (content (page (now old)) count))) are puts.read) only)
+
+-- a batch that changes no record plans no page
+pub nothing_planned : (old : History) (before count : ℕ) (changes slice : List Change) (blobs : List Blob) (pages : List PageWrite) (records : List Stored) → IsAtRest old before → 3 ≤ count → count ≡ before → opened (now old) ≡ Ok records → slice ≡ changes → blobs ≡ blobs_of slice
+    → PutsFew blobs pages (bytes_at (content (page (now old)) count)) → ChangesNothing records changes → pages ≡ []
+nothing_planned old before count changes slice blobs pages records rests enough count_is opens slice_is blobs_are puts nothing =
+    puts.none.1 (planned_only old before count changes slice blobs pages records rests enough count_is opens slice_is blobs_are puts [] nothing)
+
+-- and one that changes few of them few pages
+pub few_planned : (old : History) (before count : ℕ) (changes slice : List Change) (blobs : List Blob) (pages : List PageWrite) (records : List Stored) → IsAtRest old before → 3 ≤ count → count ≡ before → opened (now old) ≡ Ok records → slice ≡ changes → blobs ≡ blobs_of slice
+    → PutsFew blobs pages (bytes_at (content (page (now old)) count)) → (ids : List ℕ) → ChangesOnly ids records changes → length (entries pages) ≤ 2 * length ids + 2
+few_planned old before count changes slice blobs pages records rests enough count_is opens slice_is blobs_are puts ids only =
+    omega (arith, length-entries pages, puts.few ids (planned_only old before count changes slice blobs pages records rests enough count_is opens slice_is blobs_are puts ids only))

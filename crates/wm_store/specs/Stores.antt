@@ -1,5 +1,6 @@
 -- A store and the station under it.
-use Rattle.std.specs.Prelude.{◌≡◌, ℕ, ◌<◌, ◌≤◌, ◌⊎◌, List, [], ◌∷◌, length, None, Ok}
+use Rattle.std.specs.Prelude.{◌≡◌, ℕ, ◌<◌, ◌≤◌, ◌⊎◌, false, ◌==◌, List, [], ◌∷◌, length, Ok}
+use Rattle.std.specs.List.{list_any}
 use Rattle.wm_spec.specs.declared.record.stored.Stored.{Stored}
 use Rattle.wm_spec.specs.declared.record.batch.Change.{Change}
 use Rattle.wm_spec.specs.Records.{record_at, AfterBatch}
@@ -20,10 +21,14 @@ pub record IsStoreOf (store : Store) (h : History) : Type 0 where
 abbrev pub OldOrAfter : List Stored → List Change → List ℕ → Type 0
 OldOrAfter old changes file = Held old file ⊎ ((new : List Stored) × AfterBatch old changes new × Held new file)
 
--- each change is a drop, of an id that no record has
+-- each change of none of these ids says what is there already: its record, or that there is none
+abbrev pub ChangesOnly : List ℕ → List Stored → List Change → Type 0
+ChangesOnly ids stored [] = Unit {0}
+ChangesOnly ids stored (c ∷ changes) = (list_any (λ k. k == c.id) ids ≡ false → record_at stored c.id ≡ c.becomes) × ChangesOnly ids stored changes
+
+-- each change says what is there already
 abbrev pub ChangesNothing : List Stored → List Change → Type 0
-ChangesNothing stored [] = Unit {0}
-ChangesNothing stored (c ∷ changes) = (c.becomes ≡ None) × (record_at stored c.id ≡ None) × ChangesNothing stored changes
+ChangesNothing stored changes = ChangesOnly [] stored changes
 
 -- of so many pages few are other than they were: the new ones are the old with a list of them over it
 pub record DifferOnFew (count most : ℕ) (old new : ℕ → List ℕ) : Type 0 where

@@ -6,10 +6,10 @@ ghost use Rattle.wm_page.specs.Batch.{entries};
 ghost use Rattle.wm_page.specs.Cause.{OpenCause, StoreCause};
 ghost use Rattle.wm_station.specs.History.{now};
 ghost use Rattle.wm_journal.specs.Disk.{page};
-ghost use Rattle.wm_heap.specs.Blobs.{AreBlobs, AreSmall, change_something};
+ghost use Rattle.wm_heap.specs.Blobs.{AreBlobs, AreSmall};
 ghost use Rattle.wm_heap.specs.Content.{content, bytes_at};
 ghost use Rattle.wm_heap.specs.Places.{place_of, page_count, IsHeapOf};
-ghost use Rattle.wm_heap.specs.Plan.{IsPlan, IsChanged};
+ghost use Rattle.wm_heap.specs.Plan.{IsPlan, IsChanged, PutsFew};
 ghost use Rattle.wm_store.specs.Answers.{FindsIn};
 ghost use Rattle.wm_store.specs.Opened.{pages_opened};
 
@@ -68,8 +68,8 @@ pub fn plan_over<P: Station>(
     requires heap { P.tells → IsHeapOf heap.old (page (now (P.history station.old))) count }
     requires size { P.tells → count * 4096 ≤ length (now (P.history station.old)) }
     ensures plan { IfOk result (λ b. IsPlan (page_count heap.old) (page_count heap.new) (entries b.pages)) }
-    ensures nothing { IfOk result (λ b. (length b.pages == 0) ≡ not (change_something (λ id. is_some (place_of heap.old id)) blobs.now)) }
     ensures few { IfOk result (λ b. length b.pages ≤ 2 * length blobs.now + 2) }
+    ensures altered { P.tells → IfOk result (λ b. PutsFew blobs.now b.pages (bytes_at (content (page (now (P.history station.old))) count))) }
     ensures changed { P.tells → IfOk result (λ b. IsChanged heap.new blobs.now (entries b.pages) (page (now (P.history station.old))) count) }
     ensures told { P.tells → P.history station.new ≡ P.history station.old }
     ensures cause { StoreCause (P.disk_faults station.old) (P.disk_faults station.new) result }

@@ -37,7 +37,7 @@ pub struct Store {
 }
 
 impl Store {
-    ghost use Rattle.wm_store.specs.Stores.{IsStoreOf, OldOrAfter, ChangesNothing, DifferOnFew};
+    ghost use Rattle.wm_store.specs.Stores.{IsStoreOf, OldOrAfter, ChangesNothing, ChangesOnly, DifferOnFew};
 
     /// Makes a store of a file that holds none, which takes `limit` changes. It then holds three records: counters, the
     /// workspace LIVE, and its version. What a crash within the call leaves, or an error but Exists, is not said.
@@ -119,6 +119,9 @@ impl Store {
 
         // At most two pages for each change and two more are other than they were, whatever the store holds.
         ensures few { P.tells → OnOk result (DifferOnFew self.new.journal (2 * length batch.now.changes + 2) (page (now (P.history station.old))) (page (now (P.history station.new)))) }
+
+        // At most two for each record that is other than it was, and two more.
+        ensures pages { P.tells → OnOk result ((old : List Stored) → Held old (now (P.history station.old)) → (ids : List ℕ) → ChangesOnly ids old batch.now.changes → DifferOnFew self.new.journal (2 * length ids + 2) (page (now (P.history station.old))) (page (now (P.history station.new)))) }
 
         // A batch that changes nothing leaves the station alone.
         ensures nothing { P.tells → (old : List Stored) → Held old (now (P.history station.old)) → ChangesNothing old batch.now.changes → P.history station.new ≡ P.history station.old }

@@ -1,9 +1,7 @@
 use Rattle.std.proofs.Common.{◌<◌, ◌≤◌, length, get_or, refl, ap, subst, ◌∙◌, arith}
-use Rattle.std.proofs.lemmas.List.{take_all}
-use Rattle.wm_heap.specs.Blobs.{OverBytes}
 use Rattle.wm_heap.specs.Content.{bytes_at, content}
 use Rattle.wm_heap.specs.Draft.{Alters, Done}
-use Rattle.wm_heap.proofs.Altering.{altering_begun, altering_on, altered_few, altered_none}
+use Rattle.wm_heap.proofs.Altering.{altering_begun, altering_on, altered}
 use Rattle.wm_heap.proofs.Standing.{at_pages}
 use Rattle.wm_heap.proofs.Planning.{going_begun, going_on, telling_begun, telling_on, planned, planned_few, planned_told}
 use Rattle.wm_heap.proofs.heap.Heap.plan.Goals as goal
@@ -57,25 +55,12 @@ returns-clause-plan g c =
     let done = c.in_ok-batch.ensures in
     planned c.args.self.now c.loop-blob.self c.loop-blob.changed.entries c.args.batch.now c.loop-blob.blob-index c.page_count-before.result c.page_count.result c.in_ok-batch.batch.pages c.page_count-before.ensures c.page_count.ensures done.pages done.root inv.going
 
-pub returns-clause-nothing : goal.returns-clause-nothing
-returns-clause-nothing g c = λ t.
-    let inv = c.loop-blob.invariant in
-    let end : length c.args.batch.now ≤ c.loop-blob.blob-index = subst (λ bs. length bs ≤ c.loop-blob.blob-index) c.as_slice-blob-items.ensures c.loop-blob-test.false in
-    altered_none c.args.self.now c.loop-blob.self c.loop-blob.changed.entries (g.G.Pages.held c.args.pages.now) (bytes_at (content (g.G.Pages.held c.args.pages.now) (g.G.Pages.in_use c.args.pages.now))) c.args.batch.now c.loop-blob.blob-index c.page_count-before.result c.page_count.result c.in_ok-batch.batch.pages
-    c.page_count-before.ensures c.page_count.ensures c.in_ok-batch.ensures.pages end inv.going.grows (inv.altering t)
-
 pub returns-clause-altered : goal.returns-clause-altered
-returns-clause-altered g c = λ t ids only.
+returns-clause-altered g c = λ t.
     let inv = c.loop-blob.invariant in
     let end : length c.args.batch.now ≤ c.loop-blob.blob-index = subst (λ bs. length bs ≤ c.loop-blob.blob-index) c.as_slice-blob-items.ensures c.loop-blob-test.false in
-    altered_few c.loop-blob.self c.loop-blob.changed.entries (g.G.Pages.held c.args.pages.now) (bytes_at (content (g.G.Pages.held c.args.pages.now) (g.G.Pages.in_use c.args.pages.now))) c.args.batch.now c.loop-blob.blob-index c.page_count-before.result c.page_count.result c.in_ok-batch.batch.pages
-    c.in_ok-batch.ensures.pages end c.requires.once (inv.altering t) ids only
-
-pub returns-clause-read : goal.returns-clause-read
-returns-clause-read g c = λ t.
-    let inv = c.loop-blob.invariant in
-    let end : length c.args.batch.now ≤ c.loop-blob.blob-index = subst (λ bs. length bs ≤ c.loop-blob.blob-index) c.as_slice-blob-items.ensures c.loop-blob-test.false in
-    subst (OverBytes (bytes_at (content (g.G.Pages.held c.args.pages.now) (g.G.Pages.in_use c.args.pages.now)))) (take_all c.loop-blob.blob-index c.args.batch.now end) (inv.altering t).read
+    altered c.args.self.now c.loop-blob.self c.loop-blob.changed.entries (g.G.Pages.held c.args.pages.now) (bytes_at (content (g.G.Pages.held c.args.pages.now) (g.G.Pages.in_use c.args.pages.now))) c.args.batch.now c.loop-blob.blob-index c.page_count-before.result c.page_count.result c.in_ok-batch.batch.pages
+    c.page_count-before.ensures c.page_count.ensures c.in_ok-batch.ensures.pages end c.requires.once inv.going.grows (inv.altering t)
 
 pub returns-clause-changed : goal.returns-clause-changed
 returns-clause-changed g c = λ t.

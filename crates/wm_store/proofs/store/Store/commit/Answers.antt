@@ -9,7 +9,7 @@ use Rattle.wm_heap.specs.Places.{page_count}
 use Rattle.wm_store.specs.Spelled.{blobs_of}
 use Rattle.wm_store.proofs.Committing.{blobs_once, blobs_small, few_rewritten}
 use Rattle.wm_store.proofs.Storing.{as_planned, before_plan, takes_pages, takes_root, takes_grown, store_after, held_after, store_same, held_same, kept_same, old_or_after}
-use Rattle.wm_store.proofs.Unchanging.{nothing_planned}
+use Rattle.wm_store.proofs.Unchanging.{few_planned, nothing_planned}
 use Rattle.wm_store.proofs.store.Store.commit.Goals as goal
 
 pub returns-in_err-blobs-clause-any_moment : goal.returns-in_err-blobs-clause-any_moment
@@ -87,16 +87,16 @@ returns-then-is_empty-clause-nothing g c = λ t old held nothing. c.in_ok-pages.
 
 pub returns-clause-nothing : goal.returns-clause-nothing
 returns-clause-nothing g c = λ t old held nothing.
-    absurd (let none : c.in_ok-pages.pages.pages ≡ [] = nothing_planned (g.P.Station.history c.args.station.now) c.args.self.now.heap c.args.self.now.journal c.args.batch.now.changes c.as_slice.result.now c.in_ok-blobs.blobs c.in_ok-pages.pages.pages old (c.requires.store t).rests
-    (subst (λ n. 3 ≤ n) c.count-count.ensures.value c.count-count.ensures.enough) (c.requires.store t).heap held.opens nothing c.as_slice.ensures c.in_ok-blobs.ensures.blobs c.in_ok-pages.ensures.nothing in
+    absurd (let none : c.in_ok-pages.pages.pages ≡ [] = nothing_planned (g.P.Station.history c.args.station.now) c.args.self.now.journal c.count-count.result c.args.batch.now.changes c.as_slice.result.now c.in_ok-blobs.blobs c.in_ok-pages.pages.pages old (c.requires.store t).rests
+    c.count-count.ensures.enough c.count-count.ensures.value held.opens c.as_slice.ensures c.in_ok-blobs.ensures.blobs (c.in_ok-pages.ensures.altered t) nothing in
     let yes : c.is_empty.result ≡ true = c.is_empty.ensures.1 none in
     let no = c.if-is_empty.false in
     cc)
 
 pub returns-in_err-commit-clause-nothing : goal.returns-in_err-commit-clause-nothing
 returns-in_err-commit-clause-nothing g c = λ t old held nothing.
-    absurd (let none : c.in_ok-pages.pages.pages ≡ [] = nothing_planned (g.P.Station.history c.args.station.now) c.args.self.now.heap c.args.self.now.journal c.args.batch.now.changes c.as_slice.result.now c.in_ok-blobs.blobs c.in_ok-pages.pages.pages old (c.requires.store t).rests
-    (subst (λ n. 3 ≤ n) c.count-count.ensures.value c.count-count.ensures.enough) (c.requires.store t).heap held.opens nothing c.as_slice.ensures c.in_ok-blobs.ensures.blobs c.in_ok-pages.ensures.nothing in
+    absurd (let none : c.in_ok-pages.pages.pages ≡ [] = nothing_planned (g.P.Station.history c.args.station.now) c.args.self.now.journal c.count-count.result c.args.batch.now.changes c.as_slice.result.now c.in_ok-blobs.blobs c.in_ok-pages.pages.pages old (c.requires.store t).rests
+    c.count-count.ensures.enough c.count-count.ensures.value held.opens c.as_slice.ensures c.in_ok-blobs.ensures.blobs (c.in_ok-pages.ensures.altered t) nothing in
     let yes : c.is_empty.result ≡ true = c.is_empty.ensures.1 none in
     let no = c.if-is_empty.false in
     cc)
@@ -112,5 +112,20 @@ pub returns-clause-few : goal.returns-clause-few
 returns-clause-few g c = λ t. record {
   rewritten = entries c.in_ok-pages.pages.pages;
   few = few_rewritten c.args.batch.now.changes c.in_ok-blobs.blobs c.in_ok-pages.pages.pages (c.in_ok-blobs.ensures.blobs ∙ ap blobs_of c.as_slice.ensures) c.in_ok-pages.ensures.few;
+  pages = subst (λ h. (p : ℕ) → 1 ≤ p → p < c.commit.new.self → page (now (g.P.Station.history c.commit.new.station)) p ≡ over (entries c.in_ok-pages.pages.pages) (page (now h)) p) (c.in_ok-pages.ensures.told t) (c.in_ok-commit.ensures.pages t);
+}
+
+pub returns-then-is_empty-clause-pages : goal.returns-then-is_empty-clause-pages
+returns-then-is_empty-clause-pages g c = λ t old held ids only. record {
+  rewritten = [];
+  few = omega arith;
+  pages = λ p from till. ap (λ h. page (now h) p) (c.in_ok-pages.ensures.told t);
+}
+
+pub returns-clause-pages : goal.returns-clause-pages
+returns-clause-pages g c = λ t old held ids only. record {
+  rewritten = entries c.in_ok-pages.pages.pages;
+  few = few_planned (g.P.Station.history c.args.station.now) c.args.self.now.journal c.count-count.result c.args.batch.now.changes c.as_slice.result.now c.in_ok-blobs.blobs c.in_ok-pages.pages.pages old (c.requires.store t).rests
+    c.count-count.ensures.enough c.count-count.ensures.value held.opens c.as_slice.ensures c.in_ok-blobs.ensures.blobs (c.in_ok-pages.ensures.altered t) ids only;
   pages = subst (λ h. (p : ℕ) → 1 ≤ p → p < c.commit.new.self → page (now (g.P.Station.history c.commit.new.station)) p ≡ over (entries c.in_ok-pages.pages.pages) (page (now h)) p) (c.in_ok-pages.ensures.told t) (c.in_ok-commit.ensures.pages t);
 }
