@@ -19,17 +19,17 @@ use Rattle.wm_store.proofs.Fitting.{FitsPage}
 use Rattle.wm_engine.proofs.Fitting.{record_fits}
 
 -- the ids that change
-abbrev ids_of : List Change → List ℕ
+abbrev pub ids_of : List Change → List ℕ
 ids_of cs = map (λ (c : Change). c.id) cs
 
 -- an id that does not change has what it had
-still : (cs : List Change) (ss : List Stored) (id : ℕ) → list_any (λ other. other == id) (ids_of cs) ≡ false → record_at (applied cs ss) id ≡ record_at ss id
+pub still : (cs : List Change) (ss : List Stored) (id : ℕ) → list_any (λ other. other == id) (ids_of cs) ≡ false → record_at (applied cs ss) id ≡ record_at ss id
 still [] ss id e = refl
 still (c ∷ cs) ss id e =
     let h = either-none (c.id == id) (list_any (λ other. other == id) (ids_of cs)) e in still cs (set_at c.id c.becomes ss) id h.1 ∙ set_other c.id c.becomes ss id (eqb-apart c.id id h.0)
 
 -- no id changes twice, nor does the first one
-once_more : (c : Change) (cs : List Change) → AreChanges (c ∷ cs) → (list_any (λ other. other == c.id) (ids_of cs) ≡ false) × AreChanges cs
+pub once_more : (c : Change) (cs : List Change) → AreChanges (c ∷ cs) → (list_any (λ other. other == c.id) (ids_of cs) ≡ false) × AreChanges cs
 unfolding ids_differ
 once_more c cs e = both-true (list_any (λ other. other == c.id) (ids_of cs)) (ids_differ (ids_of cs)) e
 

@@ -11,7 +11,7 @@ ghost use Rattle.wm_station.specs.Cause.{Rises};
 ghost use Rattle.wm_station.specs.History.{now};
 ghost use Rattle.wm_station.specs.Moments.{Ended};
 ghost use Rattle.wm_store.specs.Spelled.{FitPages};
-ghost use Rattle.wm_store.specs.Stores.{IsStoreOf};
+ghost use Rattle.wm_store.specs.Stores.{ChangesOnly, IsStoreOf};
 
 use crate::fault::LineFault;
 use std::alloc::Global;
@@ -34,8 +34,10 @@ pub fn commit<P: Station>(
     ensures any_moment { P.tells → (rs : List Stored) → KeepsOver store.old rs (P.history station.old) → Ended (P.history station.old) (P.history station.new) (λ file. HoldsSorted file rs ⊎ HoldsSorted file (applied batch.now.changes rs)) }
     // Where nothing changes the file is not touched.
     ensures nothing { P.tells → batch.now.changes ≡ [] → P.history station.new ≡ P.history station.old }
-    // At most two pages for each change and two more are other than they were.
-    ensures few { P.tells → OnOk result (ChangesPages store.new (2 * length batch.now.changes + 2) (now (P.history station.old)) (now (P.history station.new))) }
+    // Nor where each change says what the records are already.
+    ensures still { P.tells → (rs : List Stored) → KeepsOver store.old rs (P.history station.old) → ChangesOnly [] rs batch.now.changes → P.history station.new ≡ P.history station.old }
+    // At most two pages for each record that is other than it was, and two more, are other than they were.
+    ensures pages { P.tells → (rs : List Stored) → KeepsOver store.old rs (P.history station.old) → (ids : List ℕ) → ChangesOnly ids rs batch.now.changes → OnOk result (ChangesPages store.new (2 * length ids + 2) (now (P.history station.old)) (now (P.history station.new))) }
     ensures same_store { batch.now.changes ≡ [] → OnOk result (store.new ≡ store.old) }
     ensures later { P.disk_faults station.old ≤ P.disk_faults station.new }
     ensures disk { IsErrOf result faults.Disk → Rises (P.disk_faults station.old) (P.disk_faults station.new) }

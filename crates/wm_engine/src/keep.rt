@@ -1,6 +1,5 @@
 //! A line over a store: what it does is planned and printed, and only then kept.
 ghost use Rattle.std.specs.Prelude.{◌≡◌, ◌<◌, ◌≤◌, ◌⊎◌, ◌+◌, ◌*◌, ℕ, List, [], Some, true, OnOk, OnSome, IfOk, IfSome, IsErrOf, length};
-ghost use Rattle.std.specs.List.{list_all};
 ghost use Rattle.wm_base.specs.declared.instant.TheConstants.{END};
 ghost use Rattle.wm_engine.specs.Cause.{LineCause};
 ghost use Rattle.wm_engine.specs.ForkLines.{is_fork};
@@ -21,7 +20,7 @@ ghost use Rattle.wm_grammar.specs.Parsed.{parsed};
 ghost use Rattle.wm_print.specs.Texts.{Refused};
 ghost use Rattle.wm_prices.specs.Prices.{ChangesAtMost, Spends};
 ghost use Rattle.wm_spending.specs.Stretches.{mark_count, stretch_count};
-ghost use Rattle.wm_state.specs.Drafts.{CanDraft, ChangesFew, is_fork as is_fork_edit};
+ghost use Rattle.wm_state.specs.Drafts.{CanDraft, ChangesFew};
 ghost use Rattle.wm_state.specs.State.{State};
 ghost use Rattle.wm_station.specs.Cause.{Rises};
 ghost use Rattle.wm_station.specs.History.{now};
@@ -67,8 +66,10 @@ fn write<P: Station>(
     ensures any_moment { P.tells → Ended (P.history station.old) (P.history station.new) (λ file. HoldsSorted file image.old ⊎ HoldsDrafted file image.old moment edits.items) }
     // Where nothing changes the file is not touched.
     ensures nothing { P.tells → edits.items ≡ [] → P.history station.new ≡ P.history station.old }
-    // Savepoints and workspaces are on few pages.
-    ensures few { P.tells → list_all is_fork_edit edits.items ≡ true → OnOk result (ChangesPages store.new (12 * length edits.items + 2) (now (P.history station.old)) (now (P.history station.new))) }
+    // At most two pages for each record that changes, and two more, are other than they were.
+    ensures pages { P.tells → (n : ℕ) → OnOk result (ChangesAtMost n image.old image.new → ChangesPages store.new (2 * n + 2) (now (P.history station.old)) (now (P.history station.new))) }
+    // Where no record changes the file is not touched.
+    ensures still { P.tells → OnOk result (ChangesAtMost 0 image.old image.new → P.history station.new ≡ P.history station.old) }
     ensures same_store { edits.items ≡ [] → OnOk result (store.new ≡ store.old) }
     ensures later { P.disk_faults station.old ≤ P.disk_faults station.new }
     ensures disk { IsErrOf result faults.Disk → Rises (P.disk_faults station.old) (P.disk_faults station.new) }
@@ -110,8 +111,10 @@ fn keep<P: Station>(
     ensures any_moment { P.tells → Ended (P.history station.old) (P.history station.new) (λ file. HoldsSorted file image.old ⊎ HoldsDrafted file image.old moment changed.edits.items) }
     // Where nothing changes the file is not touched.
     ensures nothing { P.tells → changed.edits.items ≡ [] → P.history station.new ≡ P.history station.old }
-    // Savepoints and workspaces are on few pages.
-    ensures few { P.tells → list_all is_fork_edit changed.edits.items ≡ true → OnOk result (ChangesPages store.new (12 * length changed.edits.items + 2) (now (P.history station.old)) (now (P.history station.new))) }
+    // At most two pages for each record that changes, and two more, are other than they were.
+    ensures pages { P.tells → (n : ℕ) → OnOk result (ChangesAtMost n image.old image.new → ChangesPages store.new (2 * n + 2) (now (P.history station.old)) (now (P.history station.new))) }
+    // Where no record changes the file is not touched.
+    ensures still { P.tells → OnOk result (ChangesAtMost 0 image.old image.new → P.history station.new ≡ P.history station.old) }
     ensures same_store { changed.edits.items ≡ [] → OnOk result (store.new ≡ store.old) }
     ensures later { P.disk_faults station.old ≤ P.disk_faults station.new }
     ensures disk { IsErrOf result faults.Disk → Rises (P.disk_faults station.old) (P.disk_faults station.new) }
@@ -156,6 +159,10 @@ pub fn run_line<P: Station>(
     ensures moment { IfOk result (λ k. k.moment < END) }
     ensures few { is_fork (parsed line.now) ≡ true → OnOk result (ChangesFew image.old image.new) }
     ensures few_pages { P.tells → is_fork (parsed line.now) ≡ true → OnOk result (ChangesPages store.new 14 (now (P.history station.old)) (now (P.history station.new))) }
+    // At most two pages for each record that the line changes, and two more, are other than they were.
+    ensures pages { P.tells → (n : ℕ) → OnOk result (ChangesAtMost n image.old image.new → ChangesPages store.new (2 * n + 2) (now (P.history station.old)) (now (P.history station.new))) }
+    // Where no record changes the file is not touched.
+    ensures still { P.tells → OnOk result (ChangesAtMost 0 image.old image.new → P.history station.new ≡ P.history station.old) }
     ensures net { (workspace : List ℕ) → nets_into (parsed line.now) ≡ Some workspace → IfOk result (λ k. (s : State) → StandsAt image.old sessions.old.items moment s → ChangesAtMost (8 + 8 * stretch_count s workspace + mark_count image.old workspace) image.old image.new) }
     ensures idle { IfOk result (λ k. (s : State) → StandsAt image.old sessions.old.items moment s → is_idle (step s line.now).1 ≡ true → (image.new ≡ image.old) × (sessions.new.items ≡ sessions.old.items) × (k.moment ≡ moment)) }
     // A line that is refused, that reads, that changes no row, or that says nothing does not touch the file, whatever the result.

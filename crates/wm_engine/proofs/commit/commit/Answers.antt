@@ -5,6 +5,7 @@ use Rattle.wm_state.specs.ById.{applied}
 use Rattle.wm_engine.proofs.Causes.{line_cause}
 use Rattle.wm_engine.proofs.Committing.{commit_ended, commit_works, nothing_ended}
 use Rattle.wm_engine.proofs.Committing.{none_counted, some_counted}
+use Rattle.wm_engine.proofs.Pages.{only_kept}
 use Rattle.wm_engine.proofs.commit.commit.Goals as goal
 
 pub returns-then-is_empty-clause-any_moment : goal.returns-then-is_empty-clause-any_moment
@@ -42,5 +43,19 @@ returns-in_err-commit-clause-cause g c =
     let p = err_from_is_err_and c.from_residual.result c.from_residual.ensures.1 in
     rw (p.1, p.2) (line_cause (g.P.Station.disk_faults c.args.station.now) (g.P.Station.disk_faults c.commit.new.station) c.in_err-commit.field-0.0 c.in_err-commit.ensures.cause)
 
-pub returns-then-is_empty-clause-few : goal.returns-then-is_empty-clause-few
-returns-then-is_empty-clause-few g c = λ told. record { rewritten = []; few = omega arith; pages = λ p from till. refl }
+-- ---- how many pages
+
+pub returns-then-is_empty-clause-pages : goal.returns-then-is_empty-clause-pages
+returns-then-is_empty-clause-pages g c = λ told rs works ids only. record { rewritten = []; few = omega arith; pages = λ p from till. refl }
+
+pub returns-clause-pages : goal.returns-clause-pages
+returns-clause-pages g c = λ told rs works ids only.
+    c.in_ok-commit.ensures.pages told works.holds.here.records works.holds.here.held ids (only_kept c.args.store.now rs ids c.args.batch.now.changes (g.P.Station.history c.args.station.now) works only)
+
+pub returns-clause-still : goal.returns-clause-still
+returns-clause-still g c = λ told rs works only.
+    c.in_ok-commit.ensures.nothing told works.holds.here.records works.holds.here.held (only_kept c.args.store.now rs [] c.args.batch.now.changes (g.P.Station.history c.args.station.now) works only)
+
+pub returns-in_err-commit-clause-still : goal.returns-in_err-commit-clause-still
+returns-in_err-commit-clause-still g c = λ told rs works only.
+    c.in_err-commit.ensures.nothing told works.holds.here.records works.holds.here.held (only_kept c.args.store.now rs [] c.args.batch.now.changes (g.P.Station.history c.args.station.now) works only)

@@ -1,11 +1,11 @@
-use Rattle.std.proofs.Common.{List, refl, sym, subst, ap, ◌∙◌, ◌+◌, ◌*◌, length, arith}
+use Rattle.std.proofs.Common.{List, refl, sym, subst, ap, ◌∙◌}
 use Rattle.wm_model.proofs.Lawful.Step.{lawful_step}
 use Rattle.wm_model.specs.Planning.{StandsAt, seated}
 use Rattle.wm_model.specs.Step.{step}
 use Rattle.wm_print.specs.Texts.{Answer}
 use Rattle.wm_state.specs.State.{State, Session}
 use Rattle.wm_engine.proofs.Keeping.{begun_stands, kept_does, kept_few, kept_rules, kept_same, kept_stands, workless_plan}
-use Rattle.wm_engine.proofs.Pages.{pages_wider}
+use Rattle.wm_engine.proofs.Pages.{fork_most}
 use Rattle.wm_engine.proofs.Replying.{of_refusal, tells_refusal}
 use Rattle.wm_engine.proofs.Sounding.{sound_begun, sound_kept}
 use Rattle.wm_plan.specs.Idle.{is_idle}
@@ -13,7 +13,6 @@ use Rattle.wm_plan.specs.Views.{answer_view, seating_view}
 use Rattle.wm_engine.specs.Kinds.{kind_of}
 use Rattle.wm_model.specs.Step.Refusing.{refusal_of}
 use Rattle.wm_plan.specs.declared.seating.Seating.{Seating}
-use Rattle.wm_station.specs.History.{now}
 use Rattle.wm_spending.proofs.Counted.{spends_few}
 use Rattle.wm_engine.proofs.keep.run_line.Goals as goal
 
@@ -43,9 +42,7 @@ returns-in-Ok-keep-clause-few g c = λ fork.
     refl c.in-Ok-keep.ensures.image (c.in_ok-planned.ensures.few fork)
 
 pub returns-in-Ok-keep-clause-few_pages : goal.returns-in-Ok-keep-clause-few_pages
-returns-in-Ok-keep-clause-few_pages g c = λ told fork.
-    let forks = c.in_ok-planned.ensures.few fork in
-    pages_wider c.keep.new.store (12 * length c.in_ok-planned.field-0.planned.edits.items + 2) 14 (now (g.P.Station.history c.args.station.now)) (now (g.P.Station.history c.keep.new.station)) (omega (arith, forks.1)) (c.in-Ok-keep.ensures.few told forks.0)
+returns-in-Ok-keep-clause-few_pages g c = λ told fork. c.in-Ok-keep.ensures.pages told 6 (fork_most c.args.image.now c.keep.new.image (returns-in-Ok-keep-clause-few g c fork))
 
 pub returns-in-Ok-keep-clause-idle : goal.returns-in-Ok-keep-clause-idle
 returns-in-Ok-keep-clause-idle g c = λ s stands idle.

@@ -2,7 +2,7 @@ use Rattle.std.proofs.Common.{sym, subst, ◌∙◌, List}
 use Rattle.wm_engine.specs.Working.{KeepsOver}
 use Rattle.wm_engine.proofs.DraftsFit.{drafts_fit}
 use Rattle.wm_engine.proofs.Keeping.{begun_drafted, drafted_as, ended_drafted}
-use Rattle.wm_engine.proofs.Pages.{fork_pages}
+use Rattle.wm_engine.proofs.Pages.{pages_changed, still_changed}
 use Rattle.wm_prices.specs.Prices.{Spends}
 use Rattle.wm_spec.specs.declared.record.stored.Stored.{Stored}
 use Rattle.wm_station.specs.History.{now}
@@ -57,8 +57,14 @@ pub returns-in_ok-apply-in-Ok-clause-spends : goal.returns-in_ok-apply-in-Ok-cla
 returns-in_ok-apply-in-Ok-clause-spends g c =
     subst (λ (ss : List Stored). Spends c.args.moment c.args.image.now c.args.edits.items ss) (sym (c.in_ok-apply-in-Ok.ensures.ok ∙ c.in_ok-batch.ensures.rest)) c.in_ok-batch.ensures.spends
 
--- ---- savepoints and workspaces
+-- ---- how many pages
 
-pub returns-in_ok-apply-in-Ok-clause-few : goal.returns-in_ok-apply-in-Ok-clause-few
-returns-in_ok-apply-in-Ok-clause-few g c = λ told forks.
-    fork_pages c.commit.new.store c.args.image.now c.args.moment c.args.edits.items c.in_ok-batch.batch.changes (now (g.P.Station.history c.args.station.now)) (now (g.P.Station.history c.commit.new.station)) c.in_ok-batch.ensures.drafts forks (c.in-Ok.ensures.few told)
+pub returns-in_ok-apply-in-Ok-clause-pages : goal.returns-in_ok-apply-in-Ok-clause-pages
+returns-in_ok-apply-in-Ok-clause-pages g c = λ told n most.
+    pages_changed c.args.store.now c.commit.new.store c.args.image.now c.apply.new.self c.in_ok-batch.batch.changes (g.P.Station.history c.args.station.now) (now (g.P.Station.history c.commit.new.station)) (c.requires.works told) c.in_ok-batch.ensures.drafts.once
+    (c.in_ok-apply-in-Ok.ensures.ok ∙ c.in_ok-batch.ensures.rest) (c.in-Ok.ensures.pages told c.args.image.now (c.requires.works told)) n most
+
+pub returns-in_ok-apply-in-Ok-clause-still : goal.returns-in_ok-apply-in-Ok-clause-still
+returns-in_ok-apply-in-Ok-clause-still g c = λ told most.
+    c.in-Ok.ensures.still told c.args.image.now (c.requires.works told)
+    (still_changed c.args.store.now c.args.image.now c.apply.new.self c.in_ok-batch.batch.changes (g.P.Station.history c.args.station.now) (c.requires.works told) c.in_ok-batch.ensures.drafts.once (c.in_ok-apply-in-Ok.ensures.ok ∙ c.in_ok-batch.ensures.rest) most)

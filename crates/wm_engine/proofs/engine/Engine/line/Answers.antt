@@ -52,6 +52,20 @@ returns-in-Ok-clause-few g c = λ fork.
     subst (λ (rs : List Stored). ChangesFew c.args.self.now.records rs) after
     (subst (λ (rs : List Stored). ChangesFew rs c.run_line.new.image) (sym (ap (λ (e : Engaged). e.records) (sym c.self.view_is) ∙ here)) (c.in-Ok.ensures.few fork))
 
+pub returns-in-Ok-clause-pages : goal.returns-in-Ok-clause-pages
+returns-in-Ok-clause-pages g c = λ told n most.
+    let here = ap (λ (o : Option (List Stored)). unwrap_or o []) (sym c.in-Some.ensures.value) in
+    let after = ap (λ (o : Option (List Stored)). unwrap_or o []) (sym c.replace.ensures.after) in
+    c.in-Ok.ensures.pages told n
+    (subst (λ (rs : List Stored). ChangesAtMost n rs c.run_line.new.image) (ap (λ (e : Engaged). e.records) (sym c.self.view_is) ∙ here) (subst (λ (rs : List Stored). ChangesAtMost n c.args.self.now.records rs) (sym after) most))
+
+pub returns-in-Ok-clause-still : goal.returns-in-Ok-clause-still
+returns-in-Ok-clause-still g c = λ told most.
+    let here = ap (λ (o : Option (List Stored)). unwrap_or o []) (sym c.in-Some.ensures.value) in
+    let after = ap (λ (o : Option (List Stored)). unwrap_or o []) (sym c.replace.ensures.after) in
+    c.in-Ok.ensures.still told
+    (subst (λ (rs : List Stored). ChangesAtMost 0 rs c.run_line.new.image) (ap (λ (e : Engaged). e.records) (sym c.self.view_is) ∙ here) (subst (λ (rs : List Stored). ChangesAtMost 0 c.args.self.now.records rs) (sym after) most))
+
 pub returns-in-Ok-clause-idle : goal.returns-in-Ok-clause-idle
 returns-in-Ok-clause-idle g c = λ s for idle.
     let here = ap (λ (o : Option (List Stored)). unwrap_or o []) (sym c.in-Some.ensures.value) in
