@@ -15,3 +15,4 @@ pub mod CountLemmas
 pub mod CapLemmas
 pub mod FindLemmas
 pub mod BareLemmas
+pub mod SearchLemmas

@@ -2,19 +2,16 @@
 use Rattle.std.proofs.Common.{◌≡◌, ℕ, suc, ◌+◌, ◌<◌, Bool, true, false, not, List, [], ◌∷◌, length, filter, get_or, arith, refl, sym, ap, subst, ◌∙◌}
 use Rattle.std.proofs.Math.Bool.{false≢true}
 use Rattle.std.proofs.lemmas.Bool.{and_parts, not-true}
-use Rattle.std.proofs.lemmas.Cmp.{nat_cmp_total, on_total, then_total, back_total, lists_total}
+use Rattle.std.proofs.lemmas.Cmp.{on_total, then_total, back_total}
 use Rattle.std.proofs.lemmas.List.Sorted.{sorted_far}
 use Rattle.std.specs.Cmp.{IsStrictWeakOrder, IsTotalOrder}
 use Rattle.std.specs.List.Sorted.{IsSortedBy, IsStableBy, ties}
 use Rattle.std.specs.declared.cmp.Ordering.TheVariants.{Equal}
-use Rattle.wm_base.specs.Orders.{value_order_total}
 use Rattle.wm_base.specs.declared.value.Value.{Value}
-use Rattle.wm_select.specs.Sorting.{ascending, null_place, directed, by_directions, first_value, other_values, left_to_right, placed, sorted}
+use Rattle.wm_select.specs.Orders.{ascending_total}
+use Rattle.wm_select.specs.Sorting.{directed, by_directions, first_value, other_values, placed, sorted}
 
 -- ---- the orders are total
-
-pub ascending_total : IsTotalOrder ascending
-ascending_total = then_total (on_total null_place nat_cmp_total) value_order_total
 
 directed_total : (descending : Bool) → IsTotalOrder (directed descending)
 directed_total true = back_total ascending_total
@@ -26,9 +23,6 @@ always_equal = record { antisymm = λ vs ws. refl; trans = λ vs ws us p q. cc; 
 pub by_directions_total : (directions : List Bool) → IsTotalOrder (by_directions directions)
 by_directions_total [] = always_equal
 by_directions_total (d ∷ ds) = then_total (on_total first_value (directed_total d)) (on_total other_values (by_directions_total ds))
-
-pub left_to_right_total : IsTotalOrder left_to_right
-left_to_right_total = lists_total ascending_total
 
 -- ---- lists in order
 
@@ -98,37 +92,41 @@ tied_apart lt o w x y ey ex =
     let px = and_parts (not (lt w x)) (not (lt x w)) ex in
     o.chain y w x (not-true (lt y w) py.1) (not-true (lt w x) px.0)
 
-filter_placed : {X : Type 0} (lt : X → X → Bool) → IsStrictWeakOrder lt → (w x : X) (ys : List X) → filter (ties lt w) (placed lt x ys) ≡ filter (ties lt w) (x ∷ ys)
-filter_placed lt o w x [] = refl
-filter_placed {X} lt o w x (y ∷ ys) = by_test (lt y x) refl (filter_placed lt o w x ys)
+-- what passes a test stays as it stood where the order does not tell it apart
+filter_placed : {X : Type 0} (lt : X → X → Bool) (p : X → Bool) → ((x y : X) → p x ≡ true → p y ≡ true → lt y x ≡ false) → (x : X) (ys : List X) → filter p (placed lt x ys) ≡ filter p (x ∷ ys)
+filter_placed lt p tied x [] = refl
+filter_placed {X} lt p tied x (y ∷ ys) = by_test (lt y x) refl (filter_placed lt p tied x ys)
   where
-    by_ties : (a b : Bool) → ties lt w y ≡ a → ties lt w x ≡ b → lt y x ≡ true → filter (ties lt w) (placed lt x ys) ≡ filter (ties lt w) (x ∷ ys) → filter (ties lt w) (y ∷ placed lt x ys) ≡ filter (ties lt w) (x ∷ y ∷ ys)
-    by_ties true true ey ex t rest = absurd (false≢true (sym (tied_apart lt o w x y ey ex) ∙ t))
-    by_ties true false ey ex t rest =
-        let short : filter (ties lt w) (x ∷ ys) ≡ filter (ties lt w) ys = rw ex in
-        let one : filter (ties lt w) (y ∷ placed lt x ys) ≡ y ∷ filter (ties lt w) (placed lt x ys) = rw ey in
-        let other : filter (ties lt w) (x ∷ y ∷ ys) ≡ y ∷ filter (ties lt w) ys = rw (ex, ey) in
+    by_tests : (a b : Bool) → p y ≡ a → p x ≡ b → lt y x ≡ true → filter p (placed lt x ys) ≡ filter p (x ∷ ys) → filter p (y ∷ placed lt x ys) ≡ filter p (x ∷ y ∷ ys)
+    by_tests true true ey ex t rest = absurd (false≢true (sym (tied x y ex ey) ∙ t))
+    by_tests true false ey ex t rest =
+        let short : filter p (x ∷ ys) ≡ filter p ys = rw ex in
+        let one : filter p (y ∷ placed lt x ys) ≡ y ∷ filter p (placed lt x ys) = rw ey in
+        let other : filter p (x ∷ y ∷ ys) ≡ y ∷ filter p ys = rw (ex, ey) in
         one ∙ ap (λ zs. y ∷ zs) (rest ∙ short) ∙ sym other
-    by_ties false b ey ex t rest =
-        let one : filter (ties lt w) (y ∷ placed lt x ys) ≡ filter (ties lt w) (placed lt x ys) = rw ey in
-        let inner : filter (ties lt w) (y ∷ ys) ≡ filter (ties lt w) ys = rw ey in
+    by_tests false b ey ex t rest =
+        let one : filter p (y ∷ placed lt x ys) ≡ filter p (placed lt x ys) = rw ey in
+        let inner : filter p (y ∷ ys) ≡ filter p ys = rw ey in
         one ∙ rest ∙ same_front b ex (sym inner)
       where
-        same_front : (b : Bool) → ties lt w x ≡ b → filter (ties lt w) ys ≡ filter (ties lt w) (y ∷ ys) → filter (ties lt w) (x ∷ ys) ≡ filter (ties lt w) (x ∷ y ∷ ys)
-        same_front true ex e = let one : filter (ties lt w) (x ∷ ys) ≡ x ∷ filter (ties lt w) ys = rw ex in let other : filter (ties lt w) (x ∷ y ∷ ys) ≡ x ∷ filter (ties lt w) (y ∷ ys) = rw ex in one ∙ ap (λ zs. x ∷ zs) e ∙ sym other
-        same_front false ex e = let one : filter (ties lt w) (x ∷ ys) ≡ filter (ties lt w) ys = rw ex in let other : filter (ties lt w) (x ∷ y ∷ ys) ≡ filter (ties lt w) (y ∷ ys) = rw ex in one ∙ e ∙ sym other
+        same_front : (b : Bool) → p x ≡ b → filter p ys ≡ filter p (y ∷ ys) → filter p (x ∷ ys) ≡ filter p (x ∷ y ∷ ys)
+        same_front true ex e = let one : filter p (x ∷ ys) ≡ x ∷ filter p ys = rw ex in let other : filter p (x ∷ y ∷ ys) ≡ x ∷ filter p (y ∷ ys) = rw ex in one ∙ ap (λ zs. x ∷ zs) e ∙ sym other
+        same_front false ex e = let one : filter p (x ∷ ys) ≡ filter p ys = rw ex in let other : filter p (x ∷ y ∷ ys) ≡ filter p (y ∷ ys) = rw ex in one ∙ e ∙ sym other
 
-    by_test : (b : Bool) → lt y x ≡ b → filter (ties lt w) (placed lt x ys) ≡ filter (ties lt w) (x ∷ ys) → filter (ties lt w) (placed lt x (y ∷ ys)) ≡ filter (ties lt w) (x ∷ y ∷ ys)
-    by_test true t rest = let front : placed lt x (y ∷ ys) ≡ y ∷ placed lt x ys = rw t in ap (λ zs. filter (ties lt w) zs) front ∙ by_ties (ties lt w y) (ties lt w x) refl refl t rest
-    by_test false t rest = let front : placed lt x (y ∷ ys) ≡ x ∷ y ∷ ys = rw t in ap (λ zs. filter (ties lt w) zs) front
+    by_test : (b : Bool) → lt y x ≡ b → filter p (placed lt x ys) ≡ filter p (x ∷ ys) → filter p (placed lt x (y ∷ ys)) ≡ filter p (x ∷ y ∷ ys)
+    by_test true t rest = let front : placed lt x (y ∷ ys) ≡ y ∷ placed lt x ys = rw t in ap (λ zs. filter p zs) front ∙ by_tests (p y) (p x) refl refl t rest
+    by_test false t rest = let front : placed lt x (y ∷ ys) ≡ x ∷ y ∷ ys = rw t in ap (λ zs. filter p zs) front
 
-pub filter_sorted : {X : Type 0} (lt : X → X → Bool) → IsStrictWeakOrder lt → (w : X) (xs : List X) → filter (ties lt w) (sorted lt xs) ≡ filter (ties lt w) xs
-filter_sorted lt o w [] = refl
-filter_sorted {X} lt o w (x ∷ xs) = filter_placed lt o w x (sorted lt xs) ∙ same_behind (ties lt w x) refl (filter_sorted lt o w xs)
+pub filter_in_order : {X : Type 0} (lt : X → X → Bool) (p : X → Bool) → ((x y : X) → p x ≡ true → p y ≡ true → lt y x ≡ false) → (xs : List X) → filter p (sorted lt xs) ≡ filter p xs
+filter_in_order lt p tied [] = refl
+filter_in_order {X} lt p tied (x ∷ xs) = filter_placed lt p tied x (sorted lt xs) ∙ same_behind (p x) refl (filter_in_order lt p tied xs)
   where
-    same_behind : (b : Bool) → ties lt w x ≡ b → filter (ties lt w) (sorted lt xs) ≡ filter (ties lt w) xs → filter (ties lt w) (x ∷ sorted lt xs) ≡ filter (ties lt w) (x ∷ xs)
+    same_behind : (b : Bool) → p x ≡ b → filter p (sorted lt xs) ≡ filter p xs → filter p (x ∷ sorted lt xs) ≡ filter p (x ∷ xs)
     same_behind true e rest = rw e (ap (λ zs. x ∷ zs) rest)
     same_behind false e rest = rw e rest
+
+filter_sorted : {X : Type 0} (lt : X → X → Bool) → IsStrictWeakOrder lt → (w : X) (xs : List X) → filter (ties lt w) (sorted lt xs) ≡ filter (ties lt w) xs
+filter_sorted lt o w xs = filter_in_order lt (ties lt w) (λ x y ex ey. tied_apart lt o w x y ey ex) xs
 
 -- ---- one order
 
@@ -181,7 +179,8 @@ tails_alike {X} lt w y ys zs e = by_test (ties lt w y) refl
         let other : filter (ties lt w) (y ∷ zs) ≡ filter (ties lt w) zs = rw t in
         sym one ∙ e ∙ other
 
-one_order : {X : Type 0} (lt : X → X → Bool) → IsStrictWeakOrder lt → (ys zs : List X) → Rises lt ys → Rises lt zs → ((w : X) → filter (ties lt w) ys ≡ filter (ties lt w) zs) → ys ≡ zs
+-- lists in order that keep the same of what the order does not tell apart are one
+pub one_order : {X : Type 0} (lt : X → X → Bool) → IsStrictWeakOrder lt → (ys zs : List X) → Rises lt ys → Rises lt zs → ((w : X) → filter (ties lt w) ys ≡ filter (ties lt w) zs) → ys ≡ zs
 one_order lt o [] [] up down alike = refl
 one_order lt o [] (z ∷ zs) up down alike =
     let of_z : filter (ties lt z) (z ∷ zs) ≡ z ∷ filter (ties lt z) zs = rw (ties_itself lt o z) in

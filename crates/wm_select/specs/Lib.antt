@@ -6,3 +6,5 @@ pub mod Joining
 pub mod Keys
 pub mod Counting
 pub mod Narrowing
+pub mod Orders
+pub mod Groups

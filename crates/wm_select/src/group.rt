@@ -1,18 +1,23 @@
 //! Groups of rows.
-ghost use Rattle.std.specs.Prelude.{◌≡◌, ◌++◌, [], ◌∷◌, map, IfOk, OnOk};
-ghost use Rattle.wm_select.specs.declared.keyed.Keyed.{Keyed as KeyedRow};
+ghost use Rattle.std.specs.Prelude.{◌≡◌, ◌++◌, [], ◌∷◌, List, Some, if◌then◌else◌, IfOk, OnOk};
+ghost use Rattle.std.specs.BTreeMap.{is_at};
+ghost use Rattle.std.specs.List.Sorted.{IsStrictlySortedBy};
+ghost use Rattle.std.specs.Map.{keys_of, lookup, values_of};
+ghost use Rattle.std.specs.Ordering.{is_eq};
+ghost use Rattle.wm_base.specs.declared.value.Value.{Value as OneValue};
 ghost use Rattle.wm_select.specs.Query.{group_values, in_groups};
-ghost use Rattle.wm_select.specs.Sorting.{sorted, stands_before};
-ghost use Rattle.wm_select.specs.Keys.{keyed_by_group, cut, cut_from};
+ghost use Rattle.wm_select.specs.Sorting.{left_to_right};
+ghost use Rattle.wm_select.specs.Groups.{AreGrouped, rows_under};
 
-use crate::copied::push_copy;
-use crate::keyed::{Keyed, all_keyed};
-use crate::order::{has_keys_of, sort_ascending};
+use crate::group_key::GroupKey;
 use std::alloc::Global;
-use std::mem;
+use std::collections::BTreeMap;
 use wm_base::tree::column::Col;
 use wm_base::{Column, Columns, Memory, Row, RowList, Value, Values};
 use wm_expr::owned::column_value;
+
+/// The rows of each group.
+type Groups = BTreeMap<GroupKey, RowList>;
 
 /// Adds the values of a row at the columns of GROUP BY.
 fn push_group_values(
@@ -31,113 +36,44 @@ fn push_group_values(
 }
 
 /// The values of a row at the columns of GROUP BY.
-fn group_values(alloc: Global, cols: &[Col], columns: &Columns, row: &Row) -> Result<Values, Memory>
-    ensures { IfOk result (λ values. values ≡ group_values cols.now columns.now row.now) }
+fn group_key(alloc: Global, cols: &[Col], columns: &Columns, row: &Row) -> Result<GroupKey, Memory>
+    ensures { IfOk result (λ key. key ≡ group_values cols.now columns.now row.now) }
 {
-    let mut values = Values::new(alloc);
+    let mut values = Values::from_vec(Vec::with_capacity(alloc, cols.len())?);
     let row = row.values.as_slice();
     push_group_values(alloc, &mut values, cols, columns.as_slice(), row)?;
-    Ok(values)
+    Ok(GroupKey::from_values(values))
 }
 
-/// Adds the values of each row at the columns of GROUP BY.
-fn push_all_values(
-    alloc: Global,
-    keys: &mut Vec<Values>,
-    cols: &[Col],
-    columns: &Columns,
-    rows: &[Row],
-) -> Result<(), Memory>
-    ensures { OnOk result (keys.new.items ≡ keys.old.items ++ map (group_values cols.now columns.now) rows.now) }
+/// Puts a row behind the others of its group.
+fn put_row(alloc: Global, groups: &mut Groups, key: GroupKey, row: Row) -> Result<(), Memory>
+    ensures { OnOk result ((q : List OneValue) → lookup (is_at (left_to_right q)) groups.new.entries ≡ (if is_eq (left_to_right key q) then Some (rows_under groups.old.entries key ++ row ∷ []) else lookup (is_at (left_to_right q)) groups.old.entries)) }
 {
-    for row in rows {
-        keys.push(group_values(alloc, cols, columns, row)?)?;
+    if let Some(group) = groups.get_mut(&key) {
+        return group.push(row);
     }
+    let mut group = RowList::new(alloc);
+    group.push(row)?;
+    groups.insert(key, group)?;
     Ok(())
 }
 
-/// The values of each row at the columns of GROUP BY.
-fn all_values(
+/// Puts each row into its group.
+fn put_rows(
     alloc: Global,
-    cols: &[Col],
-    columns: &Columns,
-    rows: &[Row],
-) -> Result<Vec<Values>, Memory>
-    ensures { IfOk result (λ keys. keys.items ≡ map (group_values cols.now columns.now) rows.now) }
-{
-    let mut keys = Vec::new(alloc);
-    push_all_values(alloc, &mut keys, cols, columns, rows)?;
-    Ok(keys)
-}
-
-/// The rows, each with its values at the columns of GROUP BY.
-#[tactic(auto, using(crate::proofs::KeyLemmas::keyed_groups))]
-fn keyed_rows(
-    alloc: Global,
+    groups: &mut Groups,
     cols: &[Col],
     columns: &Columns,
     rows: Vec<Row>,
-) -> Result<Vec<Keyed>, Memory>
-    ensures { IfOk result (λ all. all.items ≡ map (keyed_by_group cols.now columns.now) rows.items) }
-{
-    match all_values(alloc, cols, columns, rows.as_slice()) {
-        Ok(keys) => {
-            let all = all_keyed(alloc, keys, rows)?;
-            Ok(all)
-        }
-        Err(fault) => {
-            drop(rows);
-            Err(fault)
-        }
-    }
-}
-
-/// Adds the rows of each stretch of the same keys but the last, which is the group that is left.
-fn push_cut(
-    alloc: Global,
-    groups: &mut Vec<RowList>,
-    group: &mut RowList,
-    first: &Keyed,
-    others: &[Keyed],
 ) -> Result<(), Memory>
-    ensures { OnOk result (groups.new.items ++ group.new ∷ [] ≡ groups.old.items ++ cut_from first.now group.old others.now) }
+    requires { groups.old.entries ≡ [] }
+    ensures { OnOk result (AreGrouped cols.now columns.now rows.items groups.new.entries) }
 {
-    let mut first = first;
-    for row in others {
-        if !has_keys_of(first, row) {
-            groups.push(mem::replace(group, RowList::new(alloc)))?;
-            first = row;
-        }
-        push_copy(alloc, group, &row.row)?;
+    for row in rows {
+        let key = group_key(alloc, cols, columns, &row)?;
+        put_row(alloc, groups, key, row)?;
     }
     Ok(())
-}
-
-/// Adds the rows of each stretch of the same keys, of which the first row is given.
-fn push_stretches(
-    alloc: Global,
-    groups: &mut Vec<RowList>,
-    first: &Keyed,
-    others: &[Keyed],
-) -> Result<(), Memory>
-    ensures { OnOk result (groups.new.items ≡ groups.old.items ++ cut_from first.now (first.now.row ∷ []) others.now) }
-{
-    let mut group = RowList::new(alloc);
-    push_copy(alloc, &mut group, &first.row)?;
-    push_cut(alloc, groups, &mut group, first, others)?;
-    groups.push(group)?;
-    Ok(())
-}
-
-/// The rows of each stretch of the same keys.
-fn cut(alloc: Global, rows: &[Keyed]) -> Result<Vec<RowList>, Memory>
-    ensures { IfOk result (λ groups. groups.items ≡ cut rows.now) }
-{
-    let mut groups = Vec::new(alloc);
-    if let [first, others @ ..] = rows {
-        push_stretches(alloc, &mut groups, first, others)?;
-    }
-    Ok(groups)
 }
 
 /// One group of all rows.
@@ -149,17 +85,16 @@ fn whole(alloc: Global, rows: RowList) -> Result<Vec<RowList>, Memory>
     Ok(groups)
 }
 
-/// The groups of rows with their values: one for each list of values, in ascending order.
-fn sorted_groups(alloc: Global, all: &mut Vec<Keyed>) -> Result<Vec<RowList>, Memory>
-    ensures { IfOk result (λ groups. groups.items ≡ cut (sorted (stands_before (λ (row : KeyedRow). row.keys)) all.old.items)) }
+/// The rows of the groups, in order of their values.
+fn in_order(alloc: Global, groups: Groups) -> Result<Vec<RowList>, Memory>
+    ensures rows { IfOk result (λ all. all.items ≡ values_of groups.entries) }
+    ensures ordered { IfOk result (λ all. IsStrictlySortedBy left_to_right (keys_of groups.entries)) }
 {
-    sort_ascending(all)?;
-    let groups = cut(alloc, all.as_slice())?;
-    Ok(groups)
+    let all = groups.into_iter().map(|(_, group)| group).collect(alloc)?;
+    Ok(all)
 }
 
 /// The groups of the rows: with GROUP BY one for each list of its values, in ascending order, else one of all rows.
-#[tactic(auto, using(crate::proofs::GroupLemmas::groups_cut))]
 pub fn in_groups(
     alloc: Global,
     cols: &[Col],
@@ -172,9 +107,8 @@ pub fn in_groups(
         let groups = whole(alloc, rows)?;
         return Ok(groups);
     }
-    let mut all = keyed_rows(alloc, cols, columns, rows.into_vec())?;
-    let found = sorted_groups(alloc, &mut all);
-    drop(all);
-    let groups = found?;
-    Ok(groups)
+    let mut groups = BTreeMap::new(alloc);
+    put_rows(alloc, &mut groups, cols, columns, rows.into_vec())?;
+    let all = in_order(alloc, groups)?;
+    Ok(all)
 }

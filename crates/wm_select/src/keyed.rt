@@ -2,7 +2,7 @@
 ghost use Rattle.std.specs.Prelude.{◌≡◌, map, IfOk};
 ghost use Rattle.std.specs.List.{zip};
 ghost use Rattle.wm_select.specs.declared.keyed.Keyed.{Keyed as KeyedRow};
-ghost use Rattle.wm_select.specs.Keys.{keyed_by, shown_keyed_by};
+ghost use Rattle.wm_select.specs.Keys.{shown_keyed_by};
 
 use crate::shown::Shown;
 use std::alloc::Global;
@@ -13,18 +13,6 @@ use wm_base::{Memory, Row, Values};
 pub struct Keyed {
     pub keys: Values,
     pub row: Row,
-}
-
-/// The rows, each with its keys.
-pub fn all_keyed(alloc: Global, keys: Vec<Values>, rows: Vec<Row>) -> Result<Vec<Keyed>, Memory>
-    ensures { IfOk result (λ keyed. keyed.items ≡ map keyed_by (zip keys.items rows.items)) }
-{
-    let keyed = keys
-        .into_iter()
-        .zip(rows)
-        .map(|(keys, row)| Keyed { keys, row })
-        .collect(alloc)?;
-    Ok(keyed)
 }
 
 /// The rows that are shown, each with its keys.

@@ -4,16 +4,15 @@
 mod aggregates;
 mod agree;
 mod answer;
-mod asked;
 mod beside;
 mod condition;
-mod copied;
 mod counted;
 mod distinct;
 mod equalities;
 mod fault;
 mod found;
 mod group;
+mod group_key;
 mod items;
 mod kept;
 mod keyed;
@@ -26,5 +25,4 @@ mod shown;
 mod source;
 
 pub use answer::select;
-pub use asked::{columns_of, projection_lasts, rows_fit};
 pub use fault::SelectFault;

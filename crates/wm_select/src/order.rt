@@ -1,7 +1,7 @@
 //! How lists of values are put in order.
 ghost use Rattle.std.specs.Prelude.{◌≡◌, OnOk};
 ghost use Rattle.wm_select.specs.declared.keyed.Keyed.{Keyed as KeyedRow};
-ghost use Rattle.wm_select.specs.Sorting.{null_place, ascending, directed, first_value, other_values, by_directions, left_to_right, sorted, goes_by, stands_before, has_values_of};
+ghost use Rattle.wm_select.specs.Sorting.{null_place, ascending, directed, first_value, other_values, by_directions, left_to_right, sorted, goes_by};
 
 use crate::keyed::Keyed;
 use std::cmp::Ordering;
@@ -20,9 +20,13 @@ fn null_place(value: &Value) -> u8
 fn ascending(one: &Value, other: &Value) -> Ordering
     ensures { result ≡ ascending one.now other.now }
 {
-    null_place(one)
-        .cmp(&null_place(other))
-        .then(one.order(other))
+    match (one, other) {
+        // What most columns hold is not asked for its place.
+        (Value::Num(m), Value::Num(n)) => m.cmp(n),
+        _ => null_place(one)
+            .cmp(&null_place(other))
+            .then(one.order(other)),
+    }
 }
 
 fn directed(descending: bool, one: &Value, other: &Value) -> Ordering
@@ -101,19 +105,4 @@ pub fn sort_directed(directions: &[bool], rows: &mut Vec<Keyed>) -> Result<(), M
         by_directions(directions, one.keys.as_slice(), other.keys.as_slice())
     })?;
     Ok(())
-}
-
-/// Puts the rows in order by their keys, from left to right. What the keys do not tell apart stays as it stood.
-pub fn sort_ascending(rows: &mut Vec<Keyed>) -> Result<(), Memory>
-    ensures { OnOk result (rows.new.items ≡ sorted (stands_before (λ (row : KeyedRow). row.keys)) rows.old.items) }
-{
-    rows.sort_by(|one, other| left_to_right(one.keys.as_slice(), other.keys.as_slice()))?;
-    Ok(())
-}
-
-/// Whether the two have the same keys.
-pub fn has_keys_of(one: &Keyed, other: &Keyed) -> bool
-    ensures { result ≡ has_values_of (λ (row : KeyedRow). row.keys) one.now other.now }
-{
-    left_to_right(one.keys.as_slice(), other.keys.as_slice()).is_eq()
 }

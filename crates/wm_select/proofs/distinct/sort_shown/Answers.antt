@@ -5,7 +5,8 @@ use Rattle.std.specs.Cmp.{IsStrictWeakOrder}
 use Rattle.wm_base.specs.declared.value.Value.{Value}
 use Rattle.wm_select.specs.declared.shown.Shown.{Shown}
 use Rattle.wm_select.specs.Sorting.{stands_before}
-use Rattle.wm_select.proofs.SortLemmas.{left_to_right_total, sorted_is}
+use Rattle.wm_select.specs.Orders.{left_to_right_total}
+use Rattle.wm_select.proofs.SortLemmas.{sorted_is}
 use Rattle.wm_select.proofs.distinct.sort_shown.Goals as goal
 
 pub returns : goal.returns
