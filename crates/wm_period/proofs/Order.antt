@@ -1,5 +1,5 @@
 -- Pieces that lie one after another between two instants, after a cut, a put and an erase.
-use Rattle.std.proofs.Common.{◌≡◌, ◌<◌, ◌≤◌, ℕ, Bool, true, false, cond, ◌&&◌, min, max, leb, ltb, List, [], ◌∷◌, ◌++◌, Option, Some, None, refl, sym, ap, ◌∙◌, arith}
+use Rattle.std.proofs.Common.{◌≡◌, ◌↔◌, ◌<◌, ◌≤◌, ℕ, Bool, IsTrue, true, false, cond, ◌&&◌, min, max, leb, ltb, List, [], ◌∷◌, ◌++◌, Option, Some, None, refl, sym, ap, subst, ◌∙◌, arith}
 use Rattle.std.proofs.lemmas.Bool.{ltb-true, true≢false}
 use Rattle.std.proofs.lemmas.Bool.Decides.{nat_tests}
 use Rattle.std.specs.Bool.{then_some}
@@ -8,7 +8,7 @@ use Rattle.std.specs.Option.{option_or}
 use Rattle.wm_base.specs.Period.{Span, covers}
 use Rattle.wm_base.specs.declared.instant.TheConstants.{END}
 use Rattle.wm_period.proofs.Cells.{held_at-append, held_at-parts}
-use Rattle.wm_period.specs.Pieces.{Held, held, held_at, Between, parts_in, put_in, erase_in}
+use Rattle.wm_period.specs.Pieces.{Held, held, held_at, Between, EndBy, parts_in, put_in, erase_in}
 use Rattle.wm_period.specs.declared.piece.Piece.{Piece}
 
 -- the two instants stand in order
@@ -29,6 +29,43 @@ Between-higher a (p ∷ ps) b c more order = (order.0, order.1, Between-higher p
 pub Between-append : (a : ℕ) (ps : List Piece) (b : ℕ) (qs : List Piece) (c : ℕ) → Between a ps b → Between b qs c → Between a (ps ++ qs) c
 Between-append a [] b qs c first second = Between-lower b a qs c first second
 Between-append a (p ∷ ps) b qs c first second = (first.0, first.1, Between-append p.period.till ps b qs c first.2 second)
+
+-- ---- pieces that have ended
+
+-- those that have ended by an instant lie before it
+pub Between-ended : (a b : ℕ) (ps : List Piece) (c : ℕ) → Between a ps c → EndBy b ps → a ≤ b → Between a ps b
+Between-ended a b [] c order ended less = less
+Between-ended a b (p ∷ ps) c order ended less = (order.0, order.1, Between-ended p.period.till b ps c order.2 ended.1 ended.0)
+
+last_after : (a : ℕ) (ps : List Piece) (p : Piece) (c : ℕ) → Between a (ps ++ p ∷ []) c → a ≤ p.period.till
+last_after a [] p c order = let from = order.0 in let long = order.1 in omega (arith, from, long)
+last_after a (q ∷ qs) p c order =
+    let from = order.0 in
+    let long = order.1 in
+    let rest = last_after q.period.till qs p c order.2 in
+    omega (arith, from, long, rest)
+
+all_ended : (a b : ℕ) (ps : List Piece) (p : Piece) (c : ℕ) → Between a (ps ++ p ∷ []) c → p.period.till ≤ b → EndBy b (ps ++ p ∷ [])
+all_ended a b [] p c order less = (less, tt)
+all_ended a b (q ∷ qs) p c order less =
+    let after = last_after q.period.till qs p c order.2 in
+    (omega (arith, after, less), all_ended q.period.till b qs p c order.2 less)
+
+last_ended : (b : ℕ) (ps : List Piece) (p : Piece) → EndBy b (ps ++ p ∷ []) → p.period.till ≤ b
+last_ended b [] p ended = ended.0
+last_ended b (q ∷ qs) p ended = last_ended b qs p ended.1
+
+-- where the last has ended, all have
+pub ended_as_last : (b : ℕ) (list ps : List Piece) (p : Piece) → Between 0 list END → list ≡ ps ++ p ∷ [] → (t : Bool) → (IsTrue t ↔ (p.period.till ≤ b)) → IsTrue t ↔ EndBy b list
+ended_as_last b list ps p order is t test = (
+  λ so. subst (EndBy b) (sym is) (all_ended 0 b ps p END (let P : List Piece → Type 0 = λ l. Between 0 l END in subst P is order) (test.0 so)),
+  λ ended. test.1 (last_ended b ps p (subst (EndBy b) is ended)),
+)
+
+-- a piece put behind those that have ended when it begins
+pub Between-behind : (ps : List Piece) (p : Piece) → Between 0 ps END → EndBy p.period.from ps → p.period.from < p.period.till → p.period.till ≤ END → Between 0 (ps ++ p ∷ []) END
+Between-behind ps p order ended long ends =
+    Between-append 0 ps p.period.from (p ∷ []) END (Between-ended 0 p.period.from ps END order ended (omega arith)) (omega arith, long, ends)
 
 -- one part before others, of which the same is known
 part_between : (p : Piece) (parts : List Piece) (low x y z : ℕ) (v : Bool) → ltb (max p.period.from x) (min p.period.till y) ≡ v

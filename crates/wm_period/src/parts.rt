@@ -56,7 +56,7 @@ pub fn lay_over(alloc: Global, lower: &[Piece], upper: &[Piece]) -> Result<Vec<P
     requires upper_in_order { Between 0 upper.now END }
     ensures { IfOk result (λ list. list.items ≡ over_from 0 lower.now upper.now) }
 {
-    let mut list = Vec::new(alloc);
+    let mut list = Vec::with_capacity(alloc, lower.len() + upper.len())?;
     let mut rest = 0;
     let mut done = Instant::beginning();
     for piece in upper {

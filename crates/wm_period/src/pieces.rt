@@ -1,10 +1,10 @@
 //! The pieces of one key, laid over one another.
-ghost use Rattle.std.specs.Prelude.{◌≡◌, ℕ, ◌↔◌, List, [], length, Option, None, if◌then◌else◌, IsTrue, IfSome, IfOk, OnOk, OnErr, Contains};
+ghost use Rattle.std.specs.Prelude.{◌≡◌, ℕ, ◌↔◌, List, [], ◌∷◌, ◌++◌, length, Option, None, if◌then◌else◌, IsTrue, IfSome, IfOk, OnOk, OnErr, Contains};
 ghost use Rattle.std.specs.Bool.{then_some};
 ghost use Rattle.std.specs.Option.{option_or, option_map};
 ghost use Rattle.wm_base.specs.Period.{covers};
 ghost use Rattle.wm_base.specs.declared.instant.TheConstants.{END};
-ghost use Rattle.wm_period.specs.Pieces.{Between, held, held_at, put_in, erase_in, over_from, IsJoined};
+ghost use Rattle.wm_period.specs.Pieces.{Between, EndBy, held, held_at, put_in, erase_in, over_from, IsJoined};
 
 use crate::joining::join_to_the_back;
 use crate::parts::{lay_over, push_parts};
@@ -40,6 +40,15 @@ impl Pieces {
         Pieces {
             list: Vec::new(alloc),
         }
+    }
+
+    /// No pieces, with room for so many.
+    pub fn with_capacity(alloc: Global, capacity: usize) -> Result<Pieces, Memory>
+        ensures { IfOk result (λ pieces. pieces ≡ []) }
+    {
+        Ok(Pieces {
+            list: Vec::with_capacity(alloc, capacity)?,
+        })
     }
 
     /// The pieces in the order of their beginnings.
@@ -97,6 +106,21 @@ impl Pieces {
         Ok(())
     }
 
+    /// Puts a piece behind the others, where each of them has ended when it begins, and tells whether it did.
+    pub fn push_behind(&mut self, piece: Piece) -> Result<bool, Memory>
+        ensures behind { IfOk result (λ put. IsTrue put ↔ EndBy piece.period.from self.old) }
+        ensures exact { IfOk result (λ put. self.new ≡ (if put then self.old ++ piece ∷ [] else self.old)) }
+        ensures err { OnErr result (self.new ≡ self.old) }
+    {
+        // A period ends by the end of time.
+        let _end = piece.period.till();
+        if !have_ended(self.list(), piece.period.from()) {
+            return Ok(false);
+        }
+        self.list.push(piece)?;
+        Ok(true)
+    }
+
     /// Takes a period out: nothing is held at its moments, and each other moment is as it was.
     pub fn erase(&mut self, alloc: Global, period: &Period) -> Result<(), Memory>
         ensures exact { OnOk result (self.new ≡ erase_in period.now self.old) }
@@ -132,6 +156,17 @@ impl Pieces {
         let left = list.len() - kept;
         list.rotate_left(kept);
         self.list.truncate(left);
+    }
+}
+
+/// Whether all pieces of a list in order have ended by an instant: the last has.
+fn have_ended(list: &[Piece], by: Instant) -> bool
+    requires { Between 0 list.now END }
+    ensures { IsTrue result ↔ EndBy by list.now }
+{
+    match list.split_last() {
+        Some((last, _)) => last.period.till() <= by,
+        None => true,
     }
 }
 
