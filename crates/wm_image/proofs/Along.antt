@@ -1,7 +1,7 @@
 -- What is held along a path by the pieces of one key, laid version by version.
 use Rattle.std.proofs.Common.{◌≡◌, ◌≢◌, ◌<◌, ◌≤◌, ◌+◌, ◌++◌, ◌&&◌, ◌||◌, ℕ, zero, suc, max, length, get_or, take, drop, Bool, true, false, cond, nat_eq, ◌==◌, nat_le, nat_lt, List, [], ◌∷◌, Option, Some, None, is_some, refl, sym, ap, ◌∙◌, subst, arith, ◌⊎◌, inl, inr}
 use Rattle.std.proofs.lemmas.Bool.{cases_lt, cases_eq, eq-eqb, leb-false, ne_eqb}
-use Rattle.std.proofs.lemmas.List.{nil_from_length}
+use Rattle.std.proofs.lemmas.List.{nil_from_length, take-append-drop, take_more}
 use Rattle.std.specs.Bool.{then_some}
 use Rattle.std.specs.List.{list_any, AllByRecursion}
 use Rattle.std.specs.Option.{option_and_then, option_or}
@@ -16,9 +16,11 @@ use Rattle.wm_index.specs.declared.versioned.Versioned.{Versioned}
 use Rattle.wm_index.proofs.Placing.{none_from}
 use Rattle.wm_index.specs.Kinds.{kind_at}
 use Rattle.wm_base.specs.Period.{covers}
+use Rattle.wm_period.proofs.Cells.{held_at-append}
 use Rattle.wm_period.specs.Pieces.{Held, held, held_at}
 use Rattle.wm_period.specs.declared.piece.Piece.{Piece}
 use Rattle.wm_spec.specs.Records.{record_at}
+use Rattle.wm_spec.specs.declared.record.Record.{Record}
 use Rattle.wm_spec.specs.declared.record.piece.PieceRecord.{PieceRecord}
 use Rattle.wm_spec.specs.declared.record.stored.Stored.{Stored}
 use Rattle.wm_state.specs.Standing.{held_by, newest_first}
@@ -87,16 +89,38 @@ or_none None = refl
 or_none (Some h) = refl
 
 -- what the front of some ids has, or the rest
+held-append : (ss : List Stored) (front back : List ℕ) (v t : ℕ)
+    → first_held (kind_at as_piece ss (front ++ back)) v t ≡ option_or (first_held (kind_at as_piece ss front) v t) (first_held (kind_at as_piece ss back) v t)
+held-append ss [] back v t = refl
+held-append ss (id ∷ ids) back v t =
+    held-cons ss id (ids ++ back) v t
+    ∙ ap (option_or (held_here (option_and_then as_piece (record_at ss id)) v t)) (held-append ss ids back v t)
+    ∙ sym (or_assoc (held_here (option_and_then as_piece (record_at ss id)) v t) (first_held (kind_at as_piece ss ids) v t) (first_held (kind_at as_piece ss back) v t))
+    ∙ ap (λ o. option_or o (first_held (kind_at as_piece ss back) v t)) (sym (held-cons ss id ids v t))
+
 held-halves : (ss : List Stored) (n : ℕ) (ids : List ℕ) (v t : ℕ)
     → option_or (first_held (kind_at as_piece ss (take n ids)) v t) (first_held (kind_at as_piece ss (drop n ids)) v t) ≡ first_held (kind_at as_piece ss ids) v t
-held-halves ss zero [] v t = refl
-held-halves ss (suc n) [] v t = refl
-held-halves ss zero (id ∷ ids) v t = refl
-held-halves ss (suc n) (id ∷ ids) v t =
-    ap (λ o. option_or o (first_held (kind_at as_piece ss (drop n ids)) v t)) (held-cons ss id (take n ids) v t)
-    ∙ or_assoc (held_here (option_and_then as_piece (record_at ss id)) v t) (first_held (kind_at as_piece ss (take n ids)) v t) (first_held (kind_at as_piece ss (drop n ids)) v t)
-    ∙ ap (option_or (held_here (option_and_then as_piece (record_at ss id)) v t)) (held-halves ss n ids v t)
-    ∙ sym (held-cons ss id ids v t)
+held-halves ss n ids v t = sym (held-append ss (take n ids) (drop n ids) v t) ∙ ap (λ (l : List ℕ). first_held (kind_at as_piece ss l) v t) (take-append-drop n ids)
+
+-- where nothing is left, the front has all
+pub held-whole : (ss : List Stored) (n : ℕ) (ids back : List ℕ) (v t : ℕ) (own : Option Held) → back ≡ drop n ids → length back ≡ 0 → own ≡ first_held (kind_at as_piece ss (take n ids)) v t
+    → own ≡ first_held (kind_at as_piece ss ids) v t
+held-whole ss n ids back v t own rest none laid =
+    laid
+    ∙ or_none (first_held (kind_at as_piece ss (take n ids)) v t)
+    ∙ ap (λ (l : List ℕ). option_or (first_held (kind_at as_piece ss (take n ids)) v t) (first_held (kind_at as_piece ss l) v t)) (sym (nil_from_length back none) ∙ rest)
+    ∙ held-halves ss n ids v t
+
+-- a front with one id more
+pub held-more : (ss : List Stored) (ids : List ℕ) (i v t : ℕ) (old new : Option Held) (found : Option Record) → i < length ids → found ≡ record_at ss (get_or ids i 0)
+    → old ≡ first_held (kind_at as_piece ss (take i ids)) v t → new ≡ option_or old (held_here (option_and_then as_piece found) v t)
+    → new ≡ first_held (kind_at as_piece ss (take (i + 1) ids)) v t
+held-more ss ids i v t old new found within is before laid =
+    laid
+    ∙ ap (option_or old) (ap (λ o. held_here (option_and_then as_piece o) v t) is ∙ or_none (held_here (option_and_then as_piece (record_at ss (get_or ids i 0))) v t) ∙ sym (held-cons ss (get_or ids i 0) [] v t))
+    ∙ ap (λ o. option_or o (first_held (kind_at as_piece ss (get_or ids i 0 ∷ [])) v t)) before
+    ∙ sym (held-append ss (take i ids) (get_or ids i 0 ∷ []) v t)
+    ∙ ap (λ (l : List ℕ). first_held (kind_at as_piece ss l) v t) (sym (take_more ids i 0 within))
 
 pub held-both : (ss : List Stored) (n : ℕ) (ids front back : List ℕ) (v t : ℕ) (upper lower both : Option Held) → front ≡ take n ids → back ≡ drop n ids
     → upper ≡ first_held (kind_at as_piece ss front) v t → lower ≡ first_held (kind_at as_piece ss back) v t → both ≡ option_or upper lower → both ≡ first_held (kind_at as_piece ss ids) v t
@@ -105,6 +129,10 @@ held-both ss n ids front back v t upper lower both first rest over under laid =
     ∙ ap (λ o. option_or o lower) (over ∙ ap (λ (l : List ℕ). first_held (kind_at as_piece ss l) v t) first)
     ∙ ap (option_or (first_held (kind_at as_piece ss (take n ids)) v t)) (under ∙ ap (λ (l : List ℕ). first_held (kind_at as_piece ss l) v t) rest)
     ∙ held-halves ss n ids v t
+
+-- a piece put behind others
+pub held-behind : (ps qs : List Piece) (p : Piece) (t : ℕ) (own : Option Held) → qs ≡ ps ++ p ∷ [] → held_at (p ∷ []) t ≡ own → held_at qs t ≡ option_or (held_at ps t) own
+held-behind ps qs p t own is here = ap (λ (l : List Piece). held_at l t) is ∙ held_at-append ps (p ∷ []) t ∙ ap (option_or (held_at ps t)) here
 
 -- what the last of the entries has whose version stands on a path
 abbrev pub newest_held : List Stored → List ℕ → List Versioned → ℕ → Option Held

@@ -1,6 +1,6 @@
 //! All that the versions on a path hold for one key, laid over one another.
 
-ghost use Rattle.std.specs.Prelude.{◌≡◌, ◌<◌, ◌≤◌, ◌&&◌, ℕ, true, false, is_some, min, nat_le, nat_lt, IfOk};
+ghost use Rattle.std.specs.Prelude.{◌≡◌, ◌<◌, ◌≤◌, ◌&&◌, ℕ, [], length, take, true, false, is_some, min, nat_le, nat_lt, IfOk};
 ghost use Rattle.std.specs.Option.{option_copied, option_and_then, option_map_or, option_or, option_to_list};
 ghost use Rattle.wm_base.specs.Period.{covers};
 ghost use Rattle.wm_base.specs.declared.instant.TheConstants.{END};
@@ -58,36 +58,58 @@ fn own_piece(found: Option<&Record>, version: u64) -> Option<Piece>
     })
 }
 
-/// What a record is of a version, as pieces: one where it is a piece of it and has a moment, else none.
-fn pieces_of(alloc: Global, found: Option<&Record>, version: u64) -> Result<Pieces, Memory>
-    ensures { IfOk result (λ own. (t : ℕ) → t < END → held_at own t ≡ held_here (option_and_then as_piece (option_copied found.entry)) version t) }
+/// Lays a record behind others, where it is a piece of a version and has a moment, and tells whether nothing of it is
+/// left to be laid: it is left where it begins before all others have ended.
+fn lay_behind(run: &mut Pieces, found: Option<&Record>, version: u64) -> Result<bool, Memory>
+    ensures laid { IfOk result (λ laid. laid ≡ true → (t : ℕ) → t < END → held_at run.new t ≡ option_or (held_at run.old t) (held_here (option_and_then as_piece (option_copied found.entry)) version t)) }
+    ensures left { IfOk result (λ laid. laid ≡ false → run.new ≡ run.old) }
+    ensures first { IfOk result (λ laid. run.old ≡ [] → laid ≡ true) }
 {
-    let mut own = Pieces::new(alloc);
-    if let Some(piece) = own_piece(found, version) {
-        own.put(alloc, piece)?;
-    }
-    Ok(own)
+    let Some(piece) = own_piece(found, version) else {
+        return Ok(true);
+    };
+    let put = run.push_behind(piece)?;
+    Ok(put)
 }
 
-/// What a version has by some pieces of one table and key. The two halves of them are laid over one another, each made
-/// so itself, so that of n pieces each is copied as often as n can be halved.
-fn lay_halves(alloc: Global, image: &Image, ids: &[u64], version: u64) -> Result<Pieces, Memory>
-    ensures { IfOk result (λ own. (t : ℕ) → t < END → held_at own t ≡ first_held (kind_at as_piece image.now ids.now) version t) }
+/// Lays what a version has by some pieces of one table and key, id by id, as long as each begins when those before it
+/// have ended: what is laid, and of how many ids.
+fn lay_run(
+    alloc: Global,
+    image: &Image,
+    ids: &[u64],
+    version: u64,
+) -> Result<(Pieces, usize), Memory>
+    ensures held { IfOk result (λ run. (t : ℕ) → t < END → held_at run.0 t ≡ first_held (kind_at as_piece image.now (take run.1 ids.now)) version t) }
+    ensures within { IfOk result (λ run. run.1 ≤ length ids.now) }
+    ensures some { IfOk result (λ run. 0 < length ids.now → 0 < run.1) }
 {
-    match ids {
-        [] => Ok(Pieces::new(alloc)),
-        [id] => {
-            let own = pieces_of(alloc, image.record(*id), version)?;
-            Ok(own)
-        }
-        _ => {
-            let (front, back) = ids.split_at(ids.len() / 2);
-            let upper = lay_halves(alloc, image, front, version)?;
-            let lower = lay_halves(alloc, image, back, version)?;
-            let both = Pieces::over(alloc, &lower, &upper)?;
-            Ok(both)
+    let mut run = Pieces::with_capacity(alloc, ids.len())?;
+    for (place, id) in ids.iter().enumerate() {
+        if !lay_behind(&mut run, image.record(*id), version)? {
+            return Ok((run, place));
         }
     }
+    Ok((run, ids.len()))
+}
+
+/// What a version has by some pieces of one table and key. Most begin in the order of their ids, and these are laid one
+/// behind another. The two halves of the others are laid under them, each made so itself, so that of n pieces each is
+/// copied at most twice for each time that n can be halved.
+fn lay_pieces(alloc: Global, image: &Image, ids: &[u64], version: u64) -> Result<Pieces, Memory>
+    ensures { IfOk result (λ own. (t : ℕ) → t < END → held_at own t ≡ first_held (kind_at as_piece image.now ids.now) version t) }
+{
+    let (run, count) = lay_run(alloc, image, ids, version)?;
+    let (_, rest) = ids.split_at(count);
+    if rest.is_empty() {
+        return Ok(run);
+    }
+    let (front, back) = rest.split_at(rest.len() / 2);
+    let upper = lay_pieces(alloc, image, front, version)?;
+    let lower = lay_pieces(alloc, image, back, version)?;
+    let under = Pieces::over(alloc, &lower, &upper)?;
+    let own = Pieces::over(alloc, &under, &run)?;
+    Ok(own)
 }
 
 /// Lays the pieces of a version under others, of some pieces of one table and key.
@@ -103,7 +125,10 @@ pub fn lay_version(
     if ids.is_empty() {
         return Ok(upper);
     }
-    let lower = lay_halves(alloc, image, ids, version)?;
+    let lower = lay_pieces(alloc, image, ids, version)?;
+    if upper.is_empty() {
+        return Ok(lower);
+    }
     let both = Pieces::over(alloc, &lower, &upper)?;
     Ok(both)
 }
