@@ -1,13 +1,17 @@
 -- The rows of a table, gathered key by key.
-use Rattle.std.proofs.Common.{◌≡◌, ℕ, ◌<◌, ◌≤◌, ◌==◌, ◌&&◌, ◌||◌, nat_lt, nat_le, Bool, true, false, cond, List, [], ◌∷◌, ◌++◌, map, Option, None, is_some, refl, sym, ap, ◌∙◌, ◌+◌, length, take, get_or, subst, append_assoc, arith}
-use Rattle.std.proofs.lemmas.List.{append-nil, take_more}
-use Rattle.std.proofs.lemmas.List.Elements.{filter_map-append}
+use Rattle.std.proofs.Common.{◌≡◌, ℕ, ◌<◌, ◌≤◌, ◌==◌, ◌&&◌, ◌||◌, nat_lt, nat_le, Bool, true, false, cond, All, List, [], ◌∷◌, ◌++◌, map, Option, Some, None, is_some, refl, sym, ap, ◌∙◌, subst, append_assoc, arith}
+use Rattle.std.proofs.lemmas.List.{append-nil}
+use Rattle.std.proofs.lemmas.List.Elements.{All-head, All-tail, filter_map-append}
+use Rattle.std.specs.BTreeMap.{is_at}
 use Rattle.std.specs.List.{list_any, list_all, filter_map, AllByRecursion}
 use Rattle.std.specs.List.Sorted.{IsStrictlySortedBy}
+use Rattle.std.specs.Map.{lookup, keys_of as entry_keys}
 use Rattle.std.specs.Option.{option_or, option_and_then, option_map_or}
 use Rattle.std.specs.Ordering.{is_eq, ordering_reverse}
 use Rattle.std.specs.declared.cmp.Ordering.{Ordering}
 use Rattle.std.specs.declared.cmp.Ordering.TheVariants.{Less, Equal, Greater}
+use Rattle.std.specs.declared.alloc.Global.{Global}
+use Rattle.std.specs.declared.vec.Vec.{Vec}
 use Rattle.wm_base.specs.Key.{key_order}
 use Rattle.wm_base.specs.Orders.{key_order_total}
 use Rattle.wm_base.specs.Period.{Span}
@@ -36,8 +40,11 @@ use Rattle.wm_tree.specs.declared.version.Version.{Version as Node}
 use Rattle.wm_image.proofs.Spans.{maximal, value}
 use Rattle.wm_image.proofs.Spanning.{stretches_are, shown_keyed}
 use Rattle.wm_image.specs.Listing.{AddsRows, IsKeyShowing, shown_on}
+use Rattle.wm_image.specs.Shown.{AreKeysOf, HoldKey}
 use Rattle.wm_image.specs.Standing.{stretches_on}
 use Rattle.wm_index.specs.Sought.{is_piece_of}
+use Rattle.wm_index.specs.Versioned.{AreNested, AreSpanned, versions_found, versions_in}
+use Rattle.wm_index.specs.declared.versioned.Versioned.{Versioned}
 
 -- ---- nothing is held from the end of time on
 
@@ -160,12 +167,52 @@ gathered_more p version table valid within keys key old new so more = record {
       ∙ ap (filter_map (row_shown_with p valid within)) (sym (joined-push so.groups key more.stretches));
 }
 
--- the same where the keys are gone through in order
-pub gathered_next : (p : Parts) (version table : ℕ) (valid : Bool) (within : Span) (keys : List (List Value)) (i : ℕ) (key : List Value) (old new : List Row) → i < length keys → key ≡ get_or keys i key
-    → Gathered p version table valid within (take i keys) old → AddsRows p version table valid within key old new → Gathered p version table valid within (take (i + 1) keys) new
-gathered_next p version table valid within keys i key old new less read so more =
-    subst (λ ks. Gathered p version table valid within ks new) (ap (λ k. take i keys ++ k ∷ []) read ∙ sym (take_more keys i key less))
-    (gathered_more p version table valid within (take i keys) key old new so more)
+-- ---- entry by entry
+
+-- what versions have by key
+abbrev pub Entries : Type 0
+Entries = List (List Value × Vec Versioned Global)
+
+-- the rows of the keys before the rest were gathered
+pub record GatheredTo (p : Parts) (version table : ℕ) (valid : Bool) (within : Span) (all rest : Entries) (rows : List Row) : Type 0 where
+  pub passed : List (List Value)
+  pub parted : passed ++ entry_keys rest ≡ entry_keys all
+  pub found : All (λ e. lookup (is_at (key_order e.0)) all ≡ Some e.1) rest
+  pub so : Gathered p version table valid within passed rows
+
+pub gathered_first : (p : Parts) (version table : ℕ) (valid : Bool) (within : Span) (all rest : Entries) (rows : List Row) → rest ≡ all → All (λ e. lookup (is_at (key_order e.0)) all ≡ Some e.1) all → rows ≡ []
+    → GatheredTo p version table valid within all rest rows
+gathered_first p version table valid within all rest rows whole found none = record {
+  passed = [];
+  parted = ap entry_keys whole;
+  found = subst (All (λ e. lookup (is_at (key_order e.0)) all ≡ Some e.1)) (sym whole) found;
+  so = gathered_none p version table valid within rows none;
+}
+
+-- the versions of the next key
+pub next_versions : (p : Parts) (version table : ℕ) (valid : Bool) (within : Span) (all left rest : Entries) (e : List Value × Vec Versioned Global) (rows : List Row) → left ≡ e ∷ rest
+    → GatheredTo p version table valid within all left rows → versions_in all e.0 ≡ e.1.items
+next_versions p version table valid within all left rest e rows is so =
+    ap versions_found (All-head (λ e. lookup (is_at (key_order e.0)) all ≡ Some e.1) e rest (subst (All (λ e. lookup (is_at (key_order e.0)) all ≡ Some e.1)) is so.found))
+
+-- they are nested, and their pieces lie in their periods
+pub next_nested : (ss : List Stored) (version table : ℕ) (valid : Bool) (within : Span) (all left rest : Entries) (e : List Value × Vec Versioned Global) (es : List Versioned) (rows : List Row) → left ≡ e ∷ rest
+    → GatheredTo (parts_of ss) version table valid within all left rows → AreKeysOf ss table all → es ≡ e.1.items → AreNested es × AreSpanned ss es
+next_nested ss version table valid within all left rest e es rows is so keys same =
+    let held : versions_in all e.0 ≡ es = next_versions (parts_of ss) version table valid within all left rest e rows is so ∙ sym same in
+    (subst AreNested held (keys.nested e.0), subst (AreSpanned ss) held (keys.spanned e.0))
+
+pub gathered_next : (ss : List Stored) (version table : ℕ) (valid : Bool) (within : Span) (all left rest : Entries) (e : List Value × Vec Versioned Global) (old new : List Row) → left ≡ e ∷ rest
+    → GatheredTo (parts_of ss) version table valid within all left old → AreKeysOf ss table all
+    → ((key : List Value) → HoldKey ss table key e.1.items → AddsRows (parts_of ss) version table valid within key old new) → GatheredTo (parts_of ss) version table valid within all rest new
+gathered_next ss version table valid within all left rest e old new is so keys more = record {
+  passed = so.passed ++ e.0 ∷ [];
+  parted = append_assoc so.passed (e.0 ∷ []) (entry_keys rest) ∙ ap (λ (l : Entries). so.passed ++ entry_keys l) (sym is) ∙ so.parted;
+  found = All-tail (λ e. lookup (is_at (key_order e.0)) all ≡ Some e.1) e rest (subst (All (λ e. lookup (is_at (key_order e.0)) all ≡ Some e.1)) is so.found);
+  so =
+      gathered_more (parts_of ss) version table valid within so.passed e.0 old new so.so
+      (more e.0 (subst (HoldKey ss table e.0) (next_versions (parts_of ss) version table valid within all left rest e old is so) (keys.held e.0)));
+}
 
 -- ---- all keys
 
@@ -178,29 +225,39 @@ ascend (k ∷ ks) sorted = (before ks sorted.0, ascend ks sorted.1)
     before [] all = tt
     before (q ∷ qs) all = (all.0, before qs all.1)
 
-turned : (k : List Value) (keys : List (List Value)) → list_any (λ q. is_eq (key_order k q)) keys ≡ is_key_in k keys
-turned k [] = refl
-turned k (q ∷ qs) = ap (λ b. b || list_any (λ q. is_eq (key_order k q)) qs) (ap is_eq (key_order_total.antisymm k q) ∙ back (key_order q k)) ∙ ap (λ b. is_eq (key_order q k) || b) (turned k qs)
-  where
-    back : (o : Ordering) → is_eq (ordering_reverse o) ≡ is_eq o
-    back Less = refl
-    back Equal = refl
-    back Greater = refl
-
 sought_pieces : (table : ℕ) (k : List Value) (rs : List Record) → list_any (λ (x : PieceRecord). (x.cells.table == table) && is_eq (key_order x.cells.key k)) (filter_map as_piece rs) ≡ list_any (is_piece_of table k) rs
 sought_pieces table k [] = refl
 sought_pieces table k (records.Piece x ∷ rs) = ap (λ b. ((x.cells.table == table) && is_eq (key_order x.cells.key k)) || b) (sought_pieces table k rs)
 sought_pieces table k (_ ∷ rs) = sought_pieces table k rs
 
-pub is_showing : (ss : List Stored) (version table : ℕ) (valid : Bool) (within : Span) (keys passed : List (List Value)) (rows : List Row) → passed ≡ keys → Gathered (parts_of ss) version table valid within passed rows
-    → IsStrictlySortedBy key_order keys
-    → ((k : List Value) → list_any (λ q. is_eq (key_order k q)) keys ≡ list_any (is_piece_of table k) (map (λ (s : Stored). s.record) ss)) → IsShowing (parts_of ss) version table valid within rows
+-- a key that is not among those of entries has no versions
+unheld : (k : List Value) (all : Entries) → is_key_in k (entry_keys all) ≡ false → versions_in all k ≡ []
+unheld k [] out = refl
+unheld k (e ∷ es) out =
+    let parts = neither (is_eq (key_order e.0 k)) (is_key_in k (entry_keys es)) out in
+    ap (λ b. versions_found (cond b (Some e.1) (lookup (is_at (key_order k)) es))) (tie (key_order e.0 k) (key_order k e.0) (key_order_total.antisymm k e.0) parts.0) ∙ unheld k es parts.1
+  where
+    neither : (a b : Bool) → (a || b) ≡ false → (a ≡ false) × (b ≡ false)
+    neither false b h = (refl, h)
+    neither true b h = absurd (cc)
+
+    tie : (o q : Ordering) → q ≡ ordering_reverse o → is_eq o ≡ false → is_eq q ≡ false
+    tie Less q is out = ap is_eq is
+    tie Equal q is out = absurd (cc)
+    tie Greater q is out = ap is_eq is
+
+-- what was gathered of all keys is what shows
+pub is_showing : (ss : List Stored) (version table : ℕ) (valid : Bool) (within : Span) (all : Entries) (rows : List Row) → AreKeysOf ss table all → IsStrictlySortedBy key_order (entry_keys all)
+    → GatheredTo (parts_of ss) version table valid within all [] rows → IsShowing (parts_of ss) version table valid within rows
 unfolding parts_of
-is_showing ss version table valid within keys passed rows all so sorted each = record {
-  groups = so.groups;
-  ascend = subst KeysAscend (sym (so.keyed ∙ all)) (ascend keys sorted);
+is_showing ss version table valid within all rows keys sorted gathered = record {
+  groups = gathered.so.groups;
+  ascend = subst KeysAscend (sym keyed) (ascend (entry_keys all) sorted);
   whole = λ k out.
-      sought_pieces table k (map (λ (s : Stored). s.record) ss) ∙ sym (each k) ∙ turned k keys ∙ ap (is_key_in k) (sym (so.keyed ∙ all)) ∙ out;
-  held = so.held;
-  are = so.are;
+      sought_pieces table k (map (λ (s : Stored). s.record) ss) ∙ keys.whole k (unheld k all (ap (is_key_in k) (sym keyed) ∙ out));
+  held = gathered.so.held;
+  are = gathered.so.are;
 }
+  where
+    keyed : keys_of gathered.so.groups ≡ entry_keys all
+    keyed = gathered.so.keyed ∙ sym (append-nil gathered.passed) ∙ gathered.parted

@@ -24,11 +24,12 @@ use Rattle.wm_tree.specs.Versions.{version_in, path_in, IsTree}
 use Rattle.wm_tree.specs.declared.version.Version.{Version as Node}
 use Rattle.wm_tree.proofs.Paths.{found, path_in-there, path_in-none}
 use Rattle.wm_index.proofs.Finding.{all_of, all_sought}
+use Rattle.wm_index.proofs.Using.{none_told}
 use Rattle.wm_image.proofs.Newest.{both, Stands, AllStand, AllStand-grow, tree_of, Descends-newest, version_in-newest}
 use Rattle.wm_index.specs.Indexed.{IsIndexed, ids_at, listed}
 use Rattle.wm_index.specs.Kinds.{kind_at}
-use Rattle.wm_image.specs.Shown.{has_at, held_here, first_held, along}
-use Rattle.wm_index.specs.Sought.{PieceAt, is_sought}
+use Rattle.wm_image.specs.Shown.{AreKeysOf, has_at, held_here, first_held, along}
+use Rattle.wm_index.specs.Sought.{PieceAt, is_sought, keyed_at}
 use Rattle.wm_index.specs.declared.index.Index.{Index}
 
 -- ---- the tree of the rules
@@ -168,6 +169,15 @@ pub held_told : (kept : Numbers Record) (x : Index) → IsIndexed kept x → (c 
 unfolding parts_of
 held_told kept x is c v =
     ap (λ rs. first_held (filter_map as_piece rs) v c.time) (all_sought kept x is (PieceAt c.table c.key v)) ∙ sym (stored_at-sought c v (all_of (listed kept.entries)))
+
+-- what versions have of a table, by key
+pub keys_told : (kept : Numbers Record) (x : Index) → IsIndexed kept x → (table : ℕ) → AreKeysOf (listed kept.entries) table (keyed_at x.pieces.entries table)
+keys_told kept x is table = record {
+  nested = is.nested table;
+  spanned = is.spanned table;
+  held = λ key v t. held_told kept x is (record { table = table; key = key; time = t }) v;
+  whole = λ key none. none_told kept x is table key none;
+}
 
 -- what a version holds at a cell, by its path
 pub seen_along : (p : Parts) (version : ℕ) (c : Cell) (held : ℕ → Option Held) → ((v : ℕ) → held v ≡ stored_at p.pieces v c) → along held (path_in (newest_first p.versions) version) ≡ seen p version c

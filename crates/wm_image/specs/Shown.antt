@@ -1,18 +1,23 @@
 -- What is read of the records of some ids.
-use Rattle.std.specs.Prelude.{ℕ, ◌+◌, Bool, nat_eq, not, ◌&&◌, ◌||◌, ◌==◌, nat_le, nat_lt, max, if◌then◌else◌, List, [], ◌∷◌, Option, Some, None}
+use Rattle.std.specs.Prelude.{ℕ, ◌≡◌, ◌+◌, Bool, false, nat_eq, not, ◌&&◌, ◌||◌, ◌==◌, nat_le, nat_lt, max, if◌then◌else◌, List, [], ◌∷◌, map, Option, Some, None}
 use Rattle.std.specs.Bool.{then_some}
 use Rattle.std.specs.List.{filter, list_any}
 use Rattle.std.specs.Option.{option_or}
-use Rattle.wm_graph.specs.Parts.{as_piece}
+use Rattle.std.specs.declared.alloc.Global.{Global}
+use Rattle.std.specs.declared.vec.Vec.{Vec}
+use Rattle.wm_base.specs.declared.value.Value.{Value}
+use Rattle.wm_graph.specs.Parts.{as_piece, parts_of}
 use Rattle.wm_index.specs.declared.versioned.Versioned.{Versioned}
 use Rattle.wm_index.specs.Kinds.{kind_at}
+use Rattle.wm_index.specs.Sought.{is_piece_of}
+use Rattle.wm_index.specs.Versioned.{AreNested, AreSpanned, ids_under, versions_in}
 use Rattle.wm_period.specs.Pieces.{Held}
 use Rattle.wm_spec.specs.declared.record.piece.PieceRecord.{PieceRecord}
 use Rattle.wm_spec.specs.declared.record.savepoint.Savepoint.{Savepoint}
 use Rattle.wm_spec.specs.declared.record.space.Space.{Space}
 use Rattle.wm_spec.specs.declared.record.stored.Stored.{Stored}
 use Rattle.wm_spec.specs.declared.record.table.Table.{Table}
-use Rattle.wm_state.specs.Standing.{held_by}
+use Rattle.wm_state.specs.Standing.{held_by, stored_at}
 pub use Rattle.wm_state.specs.Firsts.{is_child_from, is_saved_behind}
 
 -- the piece is the version's own and covers the moment
@@ -42,6 +47,17 @@ along f (v ∷ vs) = option_or (f v) (along f vs)
 -- what an entry of versions with ids of pieces has at a moment, where its version stands on a path
 abbrev pub entry_held : List Stored → List ℕ → Versioned → ℕ → Option Held
 entry_held ss path e time = if list_any (nat_eq e.version) path then first_held (kind_at as_piece ss e.ids.items) e.version time else None
+
+-- versions have for a key of a table what is stored for it
+abbrev pub HoldKey : List Stored → ℕ → List Value → List Versioned → Type 0
+HoldKey ss table key es = (v t : ℕ) → first_held (kind_at as_piece ss (ids_under es v)) v t ≡ stored_at (parts_of ss).pieces v (record { table = table; key = key; time = t })
+
+-- what versions have of the pieces of a table, by key: a key without versions has no piece
+pub record AreKeysOf (ss : List Stored) (table : ℕ) (keys : List (List Value × Vec Versioned Global)) : Type 0 where
+  pub nested : (k : List Value) → AreNested (versions_in keys k)
+  pub spanned : (k : List Value) → AreSpanned ss (versions_in keys k)
+  pub held : (k : List Value) → HoldKey ss table k (versions_in keys k)
+  pub whole : (k : List Value) → versions_in keys k ≡ [] → list_any (is_piece_of table k) (map (λ (s : Stored). s.record) ss) ≡ false
 
 -- those of versions that are not above a number
 abbrev pub up_to : ℕ → List Versioned → List Versioned

@@ -1,33 +1,29 @@
 //! All records of a store, found by what they are.
-ghost use Rattle.std.specs.Prelude.{◌≡◌, ◌<◌, ◌≤◌, ◌+◌, ◌^◌, ◌==◌, ◌||◌, nat_lt, ℕ, not, length, List, map, [], ◌∷◌, true, false, None, is_some, IsSome, IfSome, IfNone, IfOk, IfErr, OnOk, OnErr};
+ghost use Rattle.std.specs.Prelude.{◌≡◌, ◌<◌, ◌≤◌, ◌+◌, ◌^◌, ◌==◌, ◌||◌, nat_lt, ℕ, not, length, List, [], ◌∷◌, true, false, None, is_some, IsSome, IfSome, IfNone, IfOk, IfErr, OnOk, OnErr};
 ghost use Rattle.std.specs.List.{count_by, find, list_all, list_any};
-ghost use Rattle.std.specs.List.Sorted.{IsStrictlySortedBy};
-ghost use Rattle.std.specs.Ordering.{is_eq};
-ghost use Rattle.wm_base.specs.Key.{key_order};
-ghost use Rattle.wm_base.specs.declared.value.Value.{Value as OneValue};
 ghost use Rattle.wm_spec.specs.declared.record.stored.Stored.{Stored};
-ghost use Rattle.std.specs.Option.{option_and_then, option_copied, option_map_or, option_to_list};
+ghost use Rattle.std.specs.Option.{option_and_then, option_copied, option_map, option_map_or, option_to_list, unwrap_or};
 ghost use Rattle.std.specs.Str.{bytes_eq};
 ghost use Rattle.wm_spec.specs.declared.record.table.Table.{Table as OneTable};
 ghost use Rattle.wm_spec.specs.declared.record.version.Version.{Version as OneVersion};
 ghost use Rattle.wm_base.specs.declared.instant.TheConstants.{END};
 ghost use Rattle.wm_period.specs.Pieces.{held_at};
-ghost use Rattle.wm_graph.specs.Parts.{as_counters, as_hist, as_piece, as_space, as_table, parts_of, row_of, space_of, table_of, version_of};
+ghost use Rattle.wm_graph.specs.Parts.{as_counters, as_hist, as_space, as_table, parts_of, row_of, space_of, table_of, version_of};
 ghost use Rattle.wm_graph.specs.Rules.{keep_rules};
 ghost use Rattle.wm_spec.specs.Records.{AreRecords, record_at};
 ghost use Rattle.wm_index.specs.Hists.{AreByPosition, logged_on};
 ghost use Rattle.wm_index.specs.Kinds.{kind_at};
-ghost use Rattle.wm_index.specs.Sought.{MarksAt, MarksIn, OwnedBy, PieceAt, PiecesIn, TouchesAt, ids_with, is_piece_of, is_sought, is_touch_since};
-ghost use Rattle.wm_index.specs.Versioned.{AreNested, AreSpanned, ids_under};
+ghost use Rattle.wm_index.specs.Sought.{MarksAt, MarksIn, OwnedBy, PieceAt, PiecesIn, TouchesAt, ids_with, is_sought, is_touch_since};
+ghost use Rattle.wm_index.specs.Versioned.{AreNested, AreSpanned};
 ghost use Rattle.wm_state.specs.ById.{Ascend, applied, by_id};
 ghost use Rattle.wm_image.specs.Hops.{IsHop};
-ghost use Rattle.wm_image.specs.Shown.{first_held, is_child_from, is_saved_behind, names, rests_on};
+ghost use Rattle.wm_image.specs.Shown.{AreKeysOf, HoldKey, is_child_from, is_saved_behind, names, rests_on};
 ghost use Rattle.wm_spec.specs.declared.record.savepoint.Savepoint.{Savepoint as OneSavepoint};
 ghost use Rattle.wm_spec.specs.declared.record.space.Space.{Space as OneSpace};
 ghost use Rattle.wm_state.specs.Drafts.{is_turn};
 ghost use Rattle.wm_state.specs.Effects.{IsFree};
 ghost use Rattle.wm_state.specs.Firsts.{first_recorded};
-ghost use Rattle.wm_state.specs.Standing.{by_number, latest, saved_as, saved_in, seen, space_after, stored_at};
+ghost use Rattle.wm_state.specs.Standing.{by_number, latest, saved_as, saved_in, seen, space_after};
 ghost use Rattle.wm_state.specs.State.{next_table};
 
 use crate::children::{Behind, any_behind, least_child};
@@ -52,7 +48,7 @@ use wm_index::savepoints::{making_after, savepoint_in, savepoint_of_name};
 use wm_index::sets::ids_among;
 use wm_index::spaces::{number_after, space_of_name};
 use wm_index::tables::{id_named, table_of_number};
-use wm_index::versioned::{Versioned, ids_of_version, keys_on, versions_of_key};
+use wm_index::versioned::{KeyVersions, Versioned, ids_of_version, versions_of_key};
 use wm_index::versions::version_at;
 use wm_period::Pieces;
 use wm_rules::keeps_rules;
@@ -366,12 +362,19 @@ impl Image {
     }
 
     /// What versions have of the pieces for a key of a table, the oldest version first.
-    fn versions_of(&self, table: u16, key: &Key) -> &[Versioned]
+    pub(crate) fn versions_of(&self, table: u16, key: &Key) -> &[Versioned]
         ensures nested { AreNested result.now }
         ensures spanned { AreSpanned self.now result.now }
-        ensures held { (v t : ℕ) → first_held (kind_at as_piece self.now (ids_under result.now v)) v t ≡ stored_at (parts_of self.now).pieces v (record { table = table; key = key.now; time = t }) }
+        ensures held { HoldKey self.now table key.now result.now }
     {
         versions_of_key(&self.index.pieces, table, key)
+    }
+
+    /// What versions have of the pieces of a table, by key; None where it has no pieces.
+    pub(crate) fn keys_of(&self, table: u16) -> Option<&KeyVersions>
+        ensures { AreKeysOf self.now table (unwrap_or (option_map (λ keys. keys.entries) (option_copied result)) []) }
+    {
+        self.index.pieces.get(&table)
     }
 
     /// The ids of the pieces that a version has for a key of a table, in order.
@@ -440,15 +443,6 @@ impl Image {
         ensures { result ≡ list_any (is_turn space number) (parts_of self.now).turns }
     {
         !ids_of(&self.index.turns_at, &(space, number)).is_empty()
-    }
-
-    /// Each key for which a table has pieces, of any version, once and in order.
-    pub fn keys(&self, alloc: Global, table: u16) -> Result<Vec<Key>, Memory>
-        ensures each { IfOk result (λ keys. (k : List OneValue) → list_any (λ q. is_eq (key_order k q)) keys.items ≡ list_any (is_piece_of table k) (map (λ (s : Stored). s.record) self.now)) }
-        ensures ascending { IfOk result (λ keys. IsStrictlySortedBy key_order keys.items) }
-    {
-        let keys = keys_on(alloc, &self.index.pieces, table)?;
-        Ok(keys)
     }
 
     /// The row of a stamp.

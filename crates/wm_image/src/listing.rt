@@ -1,19 +1,24 @@
 //! The rows of a table that a version holds, and what is shown of them.
 
-ghost use Rattle.std.specs.Prelude.{◌≡◌, true, [], ◌∷◌, ◌++◌, if◌then◌else◌, IfOk, OnOk};
+ghost use Rattle.std.specs.Prelude.{◌≡◌, true, List, [], ◌∷◌, ◌++◌, if◌then◌else◌, IfOk, OnOk};
 ghost use Rattle.std.specs.Option.{option_to_list};
 ghost use Rattle.wm_base.specs.Period.{overlaps};
+ghost use Rattle.wm_base.specs.declared.value.Value.{Value as OneValue};
 ghost use Rattle.wm_base.specs.declared.value.Value.TheVariants as values;
 ghost use Rattle.wm_graph.specs.Parts.{parts_of};
 ghost use Rattle.wm_graph.specs.Rules.{keep_rules};
 ghost use Rattle.wm_image.specs.Listing.{AddsRows, IsKeyShowing, row_under, shown_on};
+ghost use Rattle.wm_image.specs.Shown.{HoldKey};
 ghost use Rattle.wm_image.specs.Standing.{IsBegun, stretch_ending, stretch_of, stretches_on};
+ghost use Rattle.wm_index.specs.Versioned.{AreNested, AreSpanned};
 ghost use Rattle.wm_state.specs.Listing.{IsShowing, seen_row};
 
 use crate::image::Image;
+use crate::laying::lay_key;
 use crate::standing::{ending, first_from, from_behind};
 use std::alloc::Global;
 use wm_base::{Instant, Key, Memory, Period, Row, RowList, Value};
+use wm_index::versioned::Versioned;
 use wm_period::Piece;
 use wm_spec::record::{RowRecord, Table};
 
@@ -119,18 +124,20 @@ fn push_rows(
     Ok(())
 }
 
-/// Puts what is shown of the rows of a key behind others.
+/// Puts what is shown of the rows of a key behind others, by what versions have of its pieces.
 fn push_key(
     alloc: Global,
     image: &Image,
     rows: &mut RowList,
     asked: &Asked,
-    key: &Key,
+    versions: &[Versioned],
 ) -> Result<(), Memory>
-    requires { keep_rules (parts_of image.now) ≡ true }
-    ensures { OnOk result (AddsRows (parts_of image.now) asked.now.version asked.now.table asked.now.valid asked.now.within key.now rows.old rows.new) }
+    requires rules { keep_rules (parts_of image.now) ≡ true }
+    requires nested { AreNested versions.now }
+    requires spanned { AreSpanned image.now versions.now }
+    ensures { OnOk result ((key : List OneValue) → HoldKey image.now asked.now.table key versions.now → AddsRows (parts_of image.now) asked.now.version asked.now.table asked.now.valid asked.now.within key rows.old rows.new) }
 {
-    let pieces = image.shown(alloc, asked.version, asked.table, key)?;
+    let pieces = lay_key(alloc, image, versions, asked.version)?;
     push_rows(alloc, image, rows, asked, pieces.list())?;
     Ok(())
 }
@@ -140,20 +147,24 @@ pub fn list_key(alloc: Global, image: &Image, asked: &Asked, key: &Key) -> Resul
     requires { keep_rules (parts_of image.now) ≡ true }
     ensures { IfOk result (λ rows. IsKeyShowing (parts_of image.now) asked.now.version asked.now.table asked.now.valid asked.now.within key.now rows) }
 {
+    let versions = image.versions_of(asked.table, key);
     let mut rows = RowList::new(alloc);
-    push_key(alloc, image, &mut rows, asked, key)?;
+    push_key(alloc, image, &mut rows, asked, versions)?;
     Ok(rows)
 }
 
-/// What is shown of the rows of a table, by key and from.
+/// What is shown of the rows of a table, by key and from. The keys and what versions have of them are gone through at
+/// once.
 pub fn list_rows(alloc: Global, image: &Image, asked: &Asked) -> Result<RowList, Memory>
     requires { keep_rules (parts_of image.now) ≡ true }
     ensures { IfOk result (λ rows. IsShowing (parts_of image.now) asked.now.version asked.now.table asked.now.valid asked.now.within rows) }
 {
-    let keys = image.keys(alloc, asked.table)?;
     let mut rows = RowList::new(alloc);
-    for key in &keys {
-        push_key(alloc, image, &mut rows, asked, key)?;
+    let Some(keys) = image.keys_of(asked.table) else {
+        return Ok(rows);
+    };
+    for (_, versions) in keys {
+        push_key(alloc, image, &mut rows, asked, versions.as_slice())?;
     }
     Ok(rows)
 }

@@ -1,7 +1,7 @@
 -- The pieces of tables and keys, version by version.
-use Rattle.std.specs.Prelude.{ℕ, zero, suc, ◌≡◌, ◌<◌, ◌≤◌, ◌+◌, ◌==◌, ◌&&◌, min, max, Bool, true, false, not, if◌then◌else◌, List, [], ◌∷◌, Option, Some, None, option_map, unwrap_or}
+use Rattle.std.specs.Prelude.{ℕ, zero, suc, ◌≡◌, ◌<◌, ◌≤◌, ◌+◌, ◌==◌, ◌&&◌, min, max, Bool, true, false, if◌then◌else◌, List, [], ◌∷◌, Option, Some, None, option_map, unwrap_or}
 use Rattle.std.specs.BTreeMap.{BTreeMap, is_at}
-use Rattle.std.specs.List.{AllByRecursion, list_any}
+use Rattle.std.specs.List.{AllByRecursion}
 use Rattle.std.specs.Map.{lookup}
 use Rattle.std.specs.Option.{option_and_then}
 use Rattle.std.specs.Ordering.{is_eq}
@@ -10,7 +10,7 @@ use Rattle.std.specs.declared.vec.Vec.{Vec}
 use Rattle.wm_base.specs.Key.{key_order}
 use Rattle.wm_base.specs.declared.value.Value.{Value}
 use Rattle.wm_graph.specs.Parts.{as_piece}
-use Rattle.wm_index.specs.Sought.{is_nil, keyed_at, placed, without}
+use Rattle.wm_index.specs.Sought.{keyed_at, placed, without}
 use Rattle.wm_index.specs.declared.versioned.Versioned.{Versioned}
 use Rattle.wm_spec.specs.Records.{record_at}
 use Rattle.wm_spec.specs.declared.record.Record.{Record}
@@ -78,15 +78,6 @@ AreSpanned ss (e ∷ es) = AllByRecursion (IsSpanned ss e.from e.till) e.ids.ite
 -- they do at each key
 abbrev pub AllSpanned : List Stored → List (ℕ × Versions) → Type 0
 AllSpanned ss tables = (t : ℕ) (k : List Value) → AreSpanned ss (versions_on tables t k)
-
--- some version has ids
-abbrev pub has_ids : List Versioned → Bool
-has_ids es = list_any (λ (e : Versioned). not (is_nil e.ids.items)) es
-
--- the keys that have ids
-abbrev pub used : List (List Value × Vec Versioned Global) → List (List Value)
-used [] = []
-used (e ∷ es) = if has_ids e.1.items then e.0 ∷ used es else used es
 
 -- a version stands at a place, behind older ones
 abbrev pub StandsAt : ℕ → List Versioned → ℕ → Type 0

@@ -1,15 +1,15 @@
 //! The ids of pieces by table and key, version by version.
 
-ghost use Rattle.std.specs.Prelude.{◌≡◌, ◌<◌, ◌≤◌, ◌++◌, ◌==◌, ◌&&◌, if◌then◌else◌, List, [], ◌∷◌, drop, length, nat_le, take, None, IfErr, IfOk, OnOk};
+ghost use Rattle.std.specs.Prelude.{◌≡◌, ◌<◌, ◌≤◌, ◌==◌, ◌&&◌, if◌then◌else◌, List, [], ◌∷◌, drop, length, nat_le, take, None, IfErr, IfOk, OnOk};
 ghost use Rattle.std.specs.BTreeMap.{is_at};
 ghost use Rattle.std.specs.List.{AllByRecursion};
 ghost use Rattle.std.specs.List.Sorted.{IsStrictlySortedBy};
-ghost use Rattle.std.specs.Map.{keys_of, lookup};
+ghost use Rattle.std.specs.Map.{lookup};
 ghost use Rattle.std.specs.Ordering.{is_eq, nat_cmp};
 ghost use Rattle.wm_base.specs.Key.{key_order};
 ghost use Rattle.wm_base.specs.declared.value.Value.{Value};
-ghost use Rattle.wm_index.specs.Sought.{keyed_at, placed, without};
-ghost use Rattle.wm_index.specs.Versioned.{AreNested, ChangedOn, ChangedWhere, FitsAt, HasLess, HasMore, IsWithin, StandsAt, VersionsRise, Widens, has_ids, ids_under, used, versions_in, versions_on, widened, widened_from};
+ghost use Rattle.wm_index.specs.Sought.{placed, without};
+ghost use Rattle.wm_index.specs.Versioned.{AreNested, ChangedOn, ChangedWhere, FitsAt, HasLess, HasMore, IsWithin, StandsAt, VersionsRise, Widens, ids_under, versions_in, versions_on, widened, widened_from};
 ghost use Rattle.wm_index.specs.declared.versioned.Versioned.{Versioned};
 
 use crate::ids::{add_id, drop_id};
@@ -320,54 +320,4 @@ pub fn drop_piece_id(
     drop_key_id(alloc, &mut keys, id, piece)?;
     tables.insert(table, keys)?;
     Ok(())
-}
-
-/// Whether some version has ids. One that has none is not kept, so the very first is looked at alone.
-fn have_ids(versions: &[Versioned]) -> bool
-    ensures { result ≡ has_ids versions.now }
-{
-    for one in versions {
-        if !one.ids.is_empty() {
-            return true;
-        }
-    }
-    false
-}
-
-/// Puts a copy of a key that has ids behind others.
-fn push_used(
-    alloc: Global,
-    keys: &mut Vec<Key>,
-    key: &Key,
-    versions: &Vec<Versioned>,
-) -> Result<(), Memory>
-    ensures { OnOk result (keys.new.items ≡ keys.old.items ++ used ((key.now, versions.now) ∷ [])) }
-{
-    if have_ids(versions.as_slice()) {
-        keys.push(key.copy(alloc)?)?;
-    }
-    Ok(())
-}
-
-/// A copy of each key that has ids, in order.
-fn used_keys(alloc: Global, map: &KeyVersions) -> Result<Vec<Key>, Memory>
-    ensures keys { IfOk result (λ keys. keys.items ≡ used map.now.entries) }
-    ensures ordered { OnOk result (IsStrictlySortedBy key_order (keys_of map.now.entries)) }
-{
-    let mut keys = Vec::new(alloc);
-    for (key, versions) in map {
-        push_used(alloc, &mut keys, key, versions)?;
-    }
-    Ok(keys)
-}
-
-/// A copy of each key of a table that has ids, in order.
-pub fn keys_on(alloc: Global, tables: &PieceIds, table: u16) -> Result<Vec<Key>, Memory>
-    ensures keys { IfOk result (λ keys. keys.items ≡ used (keyed_at tables.now.entries table)) }
-    ensures ordered { OnOk result (IsStrictlySortedBy key_order (keys_of (keyed_at tables.now.entries table))) }
-{
-    match tables.get(&table) {
-        Some(keys) => used_keys(alloc, keys),
-        None => Ok(Vec::new(alloc)),
-    }
 }
