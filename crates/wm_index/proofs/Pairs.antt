@@ -15,7 +15,7 @@ use Rattle.wm_base.specs.Key.{key_order}
 use Rattle.wm_base.specs.declared.value.Value.{Value}
 use Rattle.wm_index.proofs.TableLists.{is_at-number}
 use Rattle.wm_index.specs.Indexed.{ids_at}
-use Rattle.wm_index.specs.Sought.{Sought, OwnedBy, TouchAt, TouchesAt, TurnAt, HistsOn, Keyed, ids_among, ids_in, is_sought, pair_order, piece_ids}
+use Rattle.wm_index.specs.Sought.{Sought, OwnedBy, TouchAt, TouchesAt, TurnAt, HistsOn, Keyed, ids_among, ids_at_position, ids_in, is_sought, pair_order, piece_ids}
 use Rattle.wm_index.specs.declared.index.Index.{Index}
 
 -- a test for `Equal` is a test for the same numbers
@@ -60,13 +60,12 @@ hist_changed change old owned hists r by_space by_log (HistsOn space table) = by
 hist_changed change old owned hists r by_space by_log _ = refl
 
 -- the ids under the keys of a touch are changed
-pub touch_changed : (change : List ℕ → List ℕ) (old : Index) (owned : BTreeMap ℕ (BTreeSet ℕ)) (touched : BTreeMap (ℕ × ℕ) (Vec ℕ Global)) (touches : BTreeMap ℕ Keyed) (r : Trace)
+pub touch_changed : (change : List ℕ → List ℕ) (old : Index) (owned : BTreeMap ℕ (BTreeSet ℕ)) (touched : BTreeSet (ℕ × ℕ × ℕ)) (touches : BTreeMap ℕ Keyed) (r : Trace)
     → ((q : ℕ) → ids_among nat_cmp owned.entries q ≡ cond (is_eq (nat_cmp r.space q)) (change (ids_among nat_cmp old.owned.entries r.space)) (ids_among nat_cmp old.owned.entries q))
-    → ((q : ℕ × ℕ) → ids_in pair_order touched.entries q ≡ cond (is_eq (pair_order (r.space, r.position) q)) (change (ids_in pair_order old.touched_at.entries (r.space, r.position))) (ids_in pair_order old.touched_at.entries q))
+    → ((q : ℕ × ℕ) → ids_at_position touched.keys q ≡ cond ((r.space == q.0) && (r.position == q.1)) (change (ids_at_position old.touched_at.keys q)) (ids_at_position old.touched_at.keys q))
     → ((t : ℕ) (k : List Value) → piece_ids touches.entries t k ≡ cond ((r.cells.table == t) && is_eq (key_order r.cells.key k)) (change (piece_ids old.touches.entries t k)) (piece_ids old.touches.entries t k))
     → (q : Sought) → ids_at (record old { owned = owned; touched_at = touched; touches = touches }) q ≡ cond (is_sought q (records.Touch r)) (change (ids_at old q)) (ids_at old q)
 touch_changed change old owned touched touches r by_space by_position by_key (OwnedBy space) = by_space space ∙ changed_number change (ids_among nat_cmp old.owned.entries) r.space space
-touch_changed change old owned touched touches r by_space by_position by_key (TouchAt space position) =
-    by_position (space, position) ∙ changed_pair change (ids_in pair_order old.touched_at.entries) (r.space, r.position) (space, position)
+touch_changed change old owned touched touches r by_space by_position by_key (TouchAt space position) = by_position (space, position)
 touch_changed change old owned touched touches r by_space by_position by_key (TouchesAt table key) = by_key table key
 touch_changed change old owned touched touches r by_space by_position by_key _ = refl

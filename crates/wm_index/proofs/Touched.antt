@@ -1,15 +1,10 @@
--- The touches of a workspace from a position on, told by the ids under its positions.
-use Rattle.std.proofs.Common.{◌≡◌, ℕ, ◌==◌, nat_le, Bool, true, false, cond, ◌&&◌, ◌||◌, List, [], ◌∷◌, Option, Some, None, refl, sym, ap, subst, ◌∙◌, arith}
+-- The touches of a workspace from a position on, told by the ids at its positions.
+use Rattle.std.proofs.Common.{◌≡◌, ℕ, ◌==◌, nat_le, Bool, true, false, cond, ◌&&◌, ◌||◌, List, [], ◌∷◌, map, Option, Some, None, refl, sym, ap, ap₂, subst, ◌∙◌, arith}
 use Rattle.std.proofs.lemmas.Bool.{eq-eqb, ne_eqb, eqb-true}
-use Rattle.std.proofs.lemmas.Cmp.{nat_cmp_total, eq_by_cmp_equiv, on_total, then_total}
-use Rattle.std.proofs.lemmas.Map.{lookup-none}
-use Rattle.std.proofs.lemmas.Map.Entries.{none_past_head}
-use Rattle.std.proofs.lemmas.Map.Keys.{sorted_head, sorted_tail, IsDistinct-from_sorted}
-use Rattle.std.specs.BTreeMap.{IsOrdered, is_at}
-use Rattle.std.specs.Cmp.{IsTotalOrder, both_ways}
-use Rattle.std.specs.List.{AllByRecursion, list_any}
+use Rattle.std.proofs.lemmas.Map.Keys.{sorted_head, sorted_tail}
+use Rattle.std.specs.Cmp.{both_ways}
+use Rattle.std.specs.List.{AllByRecursion, filter, list_any}
 use Rattle.std.specs.List.Sorted.{IsStrictlySortedBy}
-use Rattle.std.specs.Map.{keys_of, lookup}
 use Rattle.std.specs.Option.{option_map_or}
 use Rattle.std.specs.Ordering.{nat_cmp}
 use Rattle.std.specs.declared.cmp.Ordering.TheVariants.{Less}
@@ -17,10 +12,9 @@ use Rattle.wm_chunks.specs.Numbers.{Numbers}
 use Rattle.wm_index.proofs.IdLists.{less_than}
 use Rattle.wm_index.proofs.Listed.{sorted-listed}
 use Rattle.wm_index.proofs.Lists.{ids_of, record_at-none, record_at-here, record_at-away}
-use Rattle.wm_index.proofs.Pairs.{pair_tied, pair_same}
-use Rattle.wm_index.proofs.Since.{Placed}
+use Rattle.wm_index.proofs.Since.{Place, is_since, is_there}
 use Rattle.wm_index.specs.Indexed.{IsIndexed, listed}
-use Rattle.wm_index.specs.Sought.{TouchAt, has_since, ids_found, ids_in, ids_with, is_sought, is_touch_since, pair_order}
+use Rattle.wm_index.specs.Sought.{TouchAt, ids_at_position, ids_since, ids_with, is_sought, is_touch_since}
 use Rattle.wm_index.specs.declared.index.Index.{Index}
 use Rattle.wm_spec.specs.Records.{record_at}
 use Rattle.wm_spec.specs.declared.record.Record.{Record}
@@ -67,61 +61,65 @@ among_with p id (s ∷ ss) sorted = by_id (s.id == id) refl (among_with p id ss 
         ∙ rest
         ∙ ap (λ o. option_map_or p o false) (sym (record_at-away s ss id (λ e. true_false (sym (eq-eqb s.id id e) ∙ apart))))
 
--- ---- the ids under the positions of a workspace
+-- ---- the ids of places
 
-pair_total : IsTotalOrder pair_order
-pair_total = then_total (on_total (λ (x : ℕ × ℕ). x.0) nat_cmp_total) (on_total (λ (x : ℕ × ℕ). x.1) nat_cmp_total)
-
--- an id that is under a position of the workspace from one on is found
-found_at : (space from id n : ℕ) (es : Placed) → nat_le from n ≡ true → has_id id (ids_in pair_order es (space, n)) ≡ true → list_any (has_since space from id) es ≡ true
-found_at space from id n [] le there = absurd (true_false (sym there))
-found_at space from id n (e ∷ es) le there = by_test (is_at (pair_order (space, n)) e.0) refl there (found_at space from id n es le)
+has_more : (p : Place → Bool) (id : ℕ) (e : Place) (es : List Place) → has_id id (map (λ (d : Place). d.2) (filter p es)) ≡ true → has_id id (map (λ (d : Place). d.2) (filter p (e ∷ es))) ≡ true
+has_more p id e es there = by_test (p e)
   where
     or_true : (a b : Bool) → b ≡ true → (a || b) ≡ true
     or_true true b is = refl
     or_true false b is = is
 
-    by_test : (b : Bool) → is_at (pair_order (space, n)) e.0 ≡ b → has_id id (ids_found (cond b (Some e.1) (lookup (is_at (pair_order (space, n))) es))) ≡ true
-        → (has_id id (ids_in pair_order es (space, n)) ≡ true → list_any (has_since space from id) es ≡ true) → list_any (has_since space from id) (e ∷ es) ≡ true
-    by_test true tie here rest =
-        let same = pair_same (space, n) e.0 tie in
-        ap (λ (k : ℕ × ℕ). ((k.0 == space) && (nat_le from k.1 && has_id id e.1.items)) || list_any (has_since space from id) es) (sym same)
-        ∙ ap (λ b. (b && (nat_le from n && has_id id e.1.items)) || list_any (has_since space from id) es) (eq-eqb space space refl)
-        ∙ ap (λ b. (b && has_id id e.1.items) || list_any (has_since space from id) es) le
-        ∙ ap (λ b. b || list_any (has_since space from id) es) here
-    by_test false apart here rest = or_true (has_since space from id e) (list_any (has_since space from id) es) (rest here)
+    by_test : (b : Bool) → has_id id (map (λ (d : Place). d.2) (cond b (e ∷ filter p es) (filter p es))) ≡ true
+    by_test true = or_true (e.2 == id) (has_id id (map (λ (d : Place). d.2) (filter p es))) there
+    by_test false = there
 
--- an id that is found is under such a position
-at_found : (space from id : ℕ) (es : Placed) → IsStrictlySortedBy pair_order (keys_of es) → list_any (has_since space from id) es ≡ true → (n : ℕ) × (nat_le from n ≡ true) × (has_id id (ids_in pair_order es (space, n)) ≡ true)
-at_found space from id [] sorted found = absurd (true_false (sym found))
-at_found space from id (e ∷ es) sorted found = by_test (e.0.0 == space) refl (nat_le from e.0.1) refl (has_id id e.1.items) refl (at_found space from id es (sorted_tail pair_order e.0 (keys_of es) sorted)) found
+-- an id that is at a position from one on is found
+found_at : (space from id n : ℕ) (es : List Place) → nat_le from n ≡ true → has_id id (ids_at_position es (space, n)) ≡ true → has_id id (ids_since es space from) ≡ true
+found_at space from id n [] le there = there
+found_at space from id n (e ∷ es) le there = by_test (e.0 == space) refl (e.1 == n) refl there (λ at. has_more (is_since space from) id e es (found_at space from id n es le at))
+  where
+    Later : Type 0
+    Later = has_id id (ids_at_position es (space, n)) ≡ true → has_id id (ids_since (e ∷ es) space from) ≡ true
+
+    by_id : (b : Bool) → (e.2 == id) ≡ b → (b || has_id id (ids_at_position es (space, n))) ≡ true → (e.0 == space) ≡ true → (e.1 == n) ≡ true → Later → has_id id (ids_since (e ∷ es) space from) ≡ true
+    by_id true same h one two later =
+        ap (λ b. has_id id (map (λ (d : Place). d.2) (cond (b && nat_le from e.1) (e ∷ filter (is_since space from) es) (filter (is_since space from) es)))) one
+        ∙ ap (λ b. has_id id (map (λ (d : Place). d.2) (cond b (e ∷ filter (is_since space from) es) (filter (is_since space from) es)))) (ap (nat_le from) (eqb-true e.1 n two) ∙ le)
+        ∙ ap (λ b. b || has_id id (ids_since es space from)) same
+    by_id false other h one two later = later h
+
+    by_test : (s : Bool) → (e.0 == space) ≡ s → (p : Bool) → (e.1 == n) ≡ p → has_id id (map (λ (d : Place). d.2) (cond (s && p) (e ∷ filter (is_there (space, n)) es) (filter (is_there (space, n)) es))) ≡ true
+        → Later → has_id id (ids_since (e ∷ es) space from) ≡ true
+    by_test true one true two h later = by_id (e.2 == id) refl h one two later
+    by_test true one false two h later = later h
+    by_test false one p two h later = later h
+
+-- an id that is found is at such a position
+at_found : (space from id : ℕ) (es : List Place) → has_id id (ids_since es space from) ≡ true → (n : ℕ) × (nat_le from n ≡ true) × (has_id id (ids_at_position es (space, n)) ≡ true)
+at_found space from id [] found = absurd (true_false (sym found))
+at_found space from id (e ∷ es) found = by_test (e.0 == space) refl (nat_le from e.1) refl found (λ rest. later (at_found space from id es rest))
   where
     Found : Type 0
-    Found = (n : ℕ) × (nat_le from n ≡ true) × (has_id id (ids_in pair_order (e ∷ es) (space, n)) ≡ true)
+    Found = (n : ℕ) × (nat_le from n ≡ true) × (has_id id (ids_at_position (e ∷ es) (space, n)) ≡ true)
 
-    -- a key of the rest is not the first
-    by_key : (n : ℕ) (b : Bool) → is_at (pair_order (space, n)) e.0 ≡ b → has_id id (ids_in pair_order es (space, n)) ≡ true
-        → has_id id (ids_found (cond b (Some e.1) (lookup (is_at (pair_order (space, n))) es))) ≡ true
-    by_key n true tie there =
-        absurd (true_false
-        (sym there
-        ∙ ap (λ o. has_id id (ids_found o))
-        (lookup-none (is_at (pair_order (space, n))) es (none_past_head (eq_by_cmp_equiv pair_total) (space, n) e es (IsDistinct-from_sorted pair_order (keys_of (e ∷ es)) sorted) tie))))
-    by_key n false apart there = there
+    later : (n : ℕ) × (nat_le from n ≡ true) × (has_id id (ids_at_position es (space, n)) ≡ true) → Found
+    later h = (h.0, h.1, has_more (is_there (space, h.0)) id e es h.2)
 
-    later : (n : ℕ) × (nat_le from n ≡ true) × (has_id id (ids_in pair_order es (space, n)) ≡ true) → Found
-    later rest = (rest.0, rest.1, by_key rest.0 (is_at (pair_order (space, rest.0)) e.0) refl rest.2)
+    by_id : (b : Bool) → (e.2 == id) ≡ b → (b || has_id id (ids_since es space from)) ≡ true → (e.0 == space) ≡ true → nat_le from e.1 ≡ true → (has_id id (ids_since es space from) ≡ true → Found) → Found
+    by_id true same h one two rest = (
+      e.1,
+      two,
+      ap₂ (λ s p. has_id id (map (λ (d : Place). d.2) (cond (s && p) (e ∷ filter (is_there (space, e.1)) es) (filter (is_there (space, e.1)) es)))) one (eq-eqb e.1 e.1 refl)
+      ∙ ap (λ b. b || has_id id (ids_at_position es (space, e.1))) same,
+    )
+    by_id false other h one two rest = rest h
 
-    by_test : (s : Bool) → (e.0.0 == space) ≡ s → (p : Bool) → nat_le from e.0.1 ≡ p → (i : Bool) → has_id id e.1.items ≡ i
-        → (list_any (has_since space from id) es ≡ true → (n : ℕ) × (nat_le from n ≡ true) × (has_id id (ids_in pair_order es (space, n)) ≡ true))
-        → ((s && (p && i)) || list_any (has_since space from id) es) ≡ true → Found
-    by_test true same true le true there rest h = (e.0.1, le, ap (λ b. has_id id (ids_found (cond b (Some e.1) (lookup (is_at (pair_order (space, e.0.1))) es)))) tied ∙ there)
-      where
-        tied : is_at (pair_order (space, e.0.1)) e.0 ≡ true
-        tied = pair_tied (space, e.0.1) e.0 ∙ ap (λ b. b && (e.0.1 == e.0.1)) (eq-eqb space e.0.0 (sym (eqb-true e.0.0 space same))) ∙ eq-eqb e.0.1 e.0.1 refl
-    by_test true same true le false there rest h = later (rest h)
-    by_test true same false le i there rest h = later (rest h)
-    by_test false same p le i there rest h = later (rest h)
+    by_test : (s : Bool) → (e.0 == space) ≡ s → (p : Bool) → nat_le from e.1 ≡ p → has_id id (map (λ (d : Place). d.2) (cond (s && p) (e ∷ filter (is_since space from) es) (filter (is_since space from) es))) ≡ true
+        → (has_id id (ids_since es space from) ≡ true → Found) → Found
+    by_test true one true two h rest = by_id (e.2 == id) refl h one two rest
+    by_test true one false two h rest = rest h
+    by_test false one p two h rest = rest h
 
 -- ---- touches
 
@@ -147,20 +145,20 @@ at_since space from (Some (records.Touch r)) is = by_test (r.space == space) ref
     by_test false same p le h = absurd (true_false (sym h))
 at_since space from (Some _) is = absurd (true_false (sym is))
 
--- the ids under the positions of a workspace from one on are those of its touches from that on
-pub touches_told : (kept : Numbers Record) (x : Index) → IsIndexed kept x → IsOrdered pair_order x.touched_at → (space from id : ℕ)
-    → list_any (has_since space from id) x.touched_at.entries ≡ option_map_or (is_touch_since space from) (record_at (listed kept.entries) id) false
-touches_told kept x is ordered space from id = both_ways _ _ there back
+-- the ids at the positions of a workspace from one on are those of its touches from that on
+pub touches_told : (kept : Numbers Record) (x : Index) → IsIndexed kept x → (space from id : ℕ)
+    → has_id id (ids_since x.touched_at.keys space from) ≡ option_map_or (is_touch_since space from) (record_at (listed kept.entries) id) false
+touches_told kept x is space from id = both_ways _ _ there back
   where
-    at : (n : ℕ) → has_id id (ids_in pair_order x.touched_at.entries (space, n)) ≡ option_map_or (is_sought (TouchAt space n)) (record_at (listed kept.entries) id) false
+    at : (n : ℕ) → has_id id (ids_at_position x.touched_at.keys (space, n)) ≡ option_map_or (is_sought (TouchAt space n)) (record_at (listed kept.entries) id) false
     at n = ap (has_id id) (is.told (TouchAt space n)) ∙ among_with (is_sought (TouchAt space n)) id (listed kept.entries) (sorted-listed kept.entries is.ordered)
 
-    there : list_any (has_since space from id) x.touched_at.entries ≡ true → option_map_or (is_touch_since space from) (record_at (listed kept.entries) id) false ≡ true
+    there : has_id id (ids_since x.touched_at.keys space from) ≡ true → option_map_or (is_touch_since space from) (record_at (listed kept.entries) id) false ≡ true
     there found =
-        let h = at_found space from id x.touched_at.entries ordered found in
+        let h = at_found space from id x.touched_at.keys found in
         since_at space from h.0 (record_at (listed kept.entries) id) h.1 (sym (at h.0) ∙ h.2)
 
-    back : option_map_or (is_touch_since space from) (record_at (listed kept.entries) id) false ≡ true → list_any (has_since space from id) x.touched_at.entries ≡ true
+    back : option_map_or (is_touch_since space from) (record_at (listed kept.entries) id) false ≡ true → has_id id (ids_since x.touched_at.keys space from) ≡ true
     back touch =
         let h = at_since space from (record_at (listed kept.entries) id) touch in
-        found_at space from id h.0 x.touched_at.entries h.1 (at h.0 ∙ h.2)
+        found_at space from id h.0 x.touched_at.keys h.1 (at h.0 ∙ h.2)

@@ -5,7 +5,7 @@ use Rattle.std.specs.Ordering.{nat_cmp}
 use Rattle.wm_chunks.specs.Numbers.{AreOrdered, Numbers}
 use Rattle.wm_spec.specs.declared.record.Record.{Record}
 use Rattle.wm_spec.specs.declared.record.stored.Stored.{Stored}
-use Rattle.wm_index.specs.Sought.{Sought, TheCounters, Tables, Spaces, SpaceAt, VersionAt, VersionIn, VersionsUnder, SavepointsOf, SavepointAt, KeptAs, KeptUnder, BornAs, SeenUnder, RowAt, PieceAt, TouchesAt, MarksAt, PiecesIn, OwnedBy, MarksIn, TouchAt, TurnAt, HistsOn, is_sought, ids_with, placed, without, ids_among, ids_in, number_ids, pair_order, piece_ids}
+use Rattle.wm_index.specs.Sought.{Sought, TheCounters, Tables, Spaces, SpaceAt, VersionAt, VersionIn, VersionsUnder, SavepointsOf, SavepointAt, KeptAs, KeptUnder, BornAs, SeenUnder, RowAt, PieceAt, TouchesAt, MarksAt, PiecesIn, OwnedBy, MarksIn, TouchAt, TurnAt, HistsOn, is_sought, ids_with, placed, without, ids_among, ids_at_position, ids_in, number_ids, pair_order, piece_ids}
 use Rattle.wm_index.specs.Versioned.{AllNested, AllSpanned, ids_under, versions_on}
 use Rattle.wm_index.specs.declared.index.Index.{Index}
 
@@ -31,7 +31,7 @@ ids_at x (MarksAt table key) = piece_ids x.marks.entries table key
 ids_at x (PiecesIn version) = ids_among nat_cmp x.pieces_in.entries version
 ids_at x (OwnedBy space) = ids_among nat_cmp x.owned.entries space
 ids_at x (MarksIn space) = ids_in nat_cmp x.marks_in.entries space
-ids_at x (TouchAt space position) = ids_in pair_order x.touched_at.entries (space, position)
+ids_at x (TouchAt space position) = ids_at_position x.touched_at.keys (space, position)
 ids_at x (TurnAt space number) = ids_in pair_order x.turns_at.entries (space, number)
 ids_at x (HistsOn space table) = ids_among pair_order x.hists_on.entries (space, table)
 

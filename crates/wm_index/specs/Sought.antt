@@ -1,9 +1,9 @@
 -- What records are sought as, and the ids of those that are it.
-use Rattle.std.specs.Prelude.{ℕ, Bool, true, false, not, ◌&&◌, ◌==◌, nat_le, if◌then◌else◌, List, [], ◌∷◌, Option, Some, None, option_map, unwrap_or}
+use Rattle.std.specs.Prelude.{ℕ, Bool, true, false, not, ◌&&◌, ◌==◌, nat_le, if◌then◌else◌, List, [], ◌∷◌, Option, Some, None, map, option_map, unwrap_or}
 use Rattle.std.specs.BTreeMap.{BTreeMap, is_at}
 use Rattle.std.specs.BTreeSet.{BTreeSet, insert_key}
 use Rattle.std.specs.Bool.{then_some}
-use Rattle.std.specs.List.{list_any}
+use Rattle.std.specs.List.{filter}
 use Rattle.std.specs.Map.{lookup}
 use Rattle.std.specs.Option.{option_or}
 use Rattle.std.specs.Ordering.{nat_cmp, is_eq, ordering_then}
@@ -127,9 +127,17 @@ ids_among cmp entries key = set_found (lookup (is_at (cmp key)) entries)
 abbrev pub pair_order : ℕ × ℕ → ℕ × ℕ → Ordering
 pair_order a b = ordering_then (nat_cmp a.0 b.0) (nat_cmp a.1 b.1)
 
--- an entry of ids by workspace and position has an id, of the workspace at a position or behind it
-abbrev pub has_since : ℕ → ℕ → ℕ → (ℕ × ℕ) × Vec ℕ Global → Bool
-has_since space from id e = (e.0.0 == space) && (nat_le from e.0.1 && list_any (λ k. k == id) e.1.items)
+-- by a workspace, in it by a position, and there by an id
+abbrev pub triple_order : ℕ × ℕ × ℕ → ℕ × ℕ × ℕ → Ordering
+triple_order a b = ordering_then (ordering_then (nat_cmp a.0 b.0) (nat_cmp a.1 b.1)) (nat_cmp a.2 b.2)
+
+-- the ids at a position of a workspace
+abbrev pub ids_at_position : List (ℕ × ℕ × ℕ) → ℕ × ℕ → List ℕ
+ids_at_position places q = map (λ (e : ℕ × ℕ × ℕ). e.2) (filter (λ (e : ℕ × ℕ × ℕ). (e.0 == q.0) && (e.1 == q.1)) places)
+
+-- the ids at a position of a workspace or behind it
+abbrev pub ids_since : List (ℕ × ℕ × ℕ) → ℕ → ℕ → List ℕ
+ids_since places space from = map (λ (e : ℕ × ℕ × ℕ). e.2) (filter (λ (e : ℕ × ℕ × ℕ). (e.0 == space) && nat_le from e.1) places)
 
 -- the ids by key of a table
 abbrev pub Keyed : Type 0

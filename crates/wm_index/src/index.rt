@@ -7,11 +7,11 @@ ghost use Rattle.wm_index.specs.Versioned.{AllNested, Gains, Loses};
 ghost use Rattle.wm_spec.specs.declared.record.Record.TheVariants as records;
 
 use crate::ids::{add_id, drop_id};
-use crate::keyed::{Ids, NumberIds, TableIds, add_in, add_on, add_to, drop_from, drop_in, drop_on};
+use crate::keyed::{Ids, NumberIds, Positions, TableIds, add_at, add_in, add_on, add_to, drop_at, drop_from, drop_in, drop_on};
 use crate::sets::{IdSets, add_among, drop_among};
 use crate::versioned::{PieceIds, add_piece_id, drop_piece_id};
 use std::alloc::Global;
-use std::collections::BTreeMap;
+use std::collections::{BTreeMap, BTreeSet};
 use wm_base::Memory;
 use wm_spec::record::{Hist, PieceRecord, Record, Savepoint, Space, Trace, Turn, Version};
 
@@ -44,7 +44,7 @@ pub struct Index {
     pub pieces_in: IdSets<u64>,
     pub owned: IdSets<u32>,
     pub marks_in: Ids<u32>,
-    pub touched_at: Ids<(u32, u64)>,
+    pub touched_at: Positions,
     pub turns_at: Ids<(u32, u32)>,
     pub hists_on: IdSets<(u32, u16)>,
 }
@@ -76,7 +76,7 @@ impl Index {
             pieces_in: BTreeMap::new(alloc),
             owned: BTreeMap::new(alloc),
             marks_in: BTreeMap::new(alloc),
-            touched_at: BTreeMap::new(alloc),
+            touched_at: BTreeSet::new(alloc),
             turns_at: BTreeMap::new(alloc),
             hists_on: BTreeMap::new(alloc),
         }
@@ -173,8 +173,7 @@ impl Index {
         ensures pieces { OnOk result (self.new.pieces.entries ≡ self.old.pieces.entries) }
     {
         add_among(alloc, &mut self.owned, touch.space, id)?;
-        let place = (touch.space, touch.position);
-        add_to(alloc, &mut self.touched_at, place, id)?;
+        add_at(&mut self.touched_at, touch.space, touch.position, id)?;
         let cells = &touch.cells;
         add_on(alloc, &mut self.touches, cells.table, &cells.key, id)
     }
@@ -304,8 +303,7 @@ impl Index {
         ensures pieces { OnOk result (self.new.pieces.entries ≡ self.old.pieces.entries) }
     {
         drop_among(&mut self.owned, touch.space, id)?;
-        let place = (touch.space, touch.position);
-        drop_from(&mut self.touched_at, place, id)?;
+        drop_at(&mut self.touched_at, touch.space, touch.position, id);
         let cells = &touch.cells;
         drop_on(alloc, &mut self.touches, cells.table, &cells.key, id)
     }

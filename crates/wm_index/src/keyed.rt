@@ -1,24 +1,26 @@
 //! Ids under keys.
 
-ghost use Rattle.std.specs.Prelude.{◌≡◌, unwrap_or, ℕ, ◌==◌, ◌&&◌, List, if◌then◌else◌, IfOk, OnOk};
-ghost use Rattle.std.specs.List.{list_any};
-ghost use Rattle.std.specs.BTreeMap.{IsOrdered};
+ghost use Rattle.std.specs.Prelude.{◌≡◌, unwrap_or, ℕ, None, ◌==◌, ◌&&◌, List, if◌then◌else◌, IfOk, OnOk};
+ghost use Rattle.std.specs.BTreeMap.{IsOrdered, is_at};
 ghost use Rattle.std.specs.List.Sorted.{IsStrictlySortedBy};
-ghost use Rattle.std.specs.Map.{keys_of};
+ghost use Rattle.std.specs.Map.{keys_of, lookup};
 ghost use Rattle.std.specs.Option.{option_copied};
 ghost use Rattle.std.specs.Ordering.{is_eq, nat_cmp};
 ghost use Rattle.wm_base.specs.Key.{key_order};
 ghost use Rattle.wm_base.specs.declared.value.Value.{Value};
-ghost use Rattle.wm_index.specs.Sought.{placed, without, has_since, ids_in, keyed_at, last_used, number_ids, pair_order, piece_ids};
+ghost use Rattle.wm_index.specs.Sought.{placed, without, ids_at_position, ids_in, ids_since, keyed_at, last_used, number_ids, piece_ids};
 
 use crate::ids::{add_id, drop_id};
 use std::alloc::Global;
-use std::collections::BTreeMap;
+use std::collections::{BTreeMap, BTreeSet};
 use wm_base::{Key, Memory};
 
 pub type Ids<K> = BTreeMap<K, Vec<u64>>;
 
 pub type TableIds = BTreeMap<u16, Ids<Key>>;
+
+/// Ids by workspace and position: the three, in order.
+pub type Positions = BTreeSet<(u32, u64, u64)>;
 
 /// Ids by workspace, and in it by number.
 pub type NumberIds = BTreeMap<u32, Ids<u64>>;
@@ -33,12 +35,26 @@ pub fn ids_of<'a, K: Ord>(map: &'a Ids<K>, key: &K) -> &'a [u64]
     }
 }
 
+/// Takes out the ids under a key. Most keys have one id, so a new list has room for one.
+fn taken<K: Ord + Drop>(alloc: Global, map: &mut Ids<K>, key: &K) -> Result<Vec<u64>, Memory>
+    ensures ids { IfOk result (λ ids. ids.items ≡ ids_in K.cmp map.old.entries key.now) }
+    ensures rest { OnOk result ((q : K) → lookup (is_at (K.cmp q)) map.new.entries ≡ (if is_at (K.cmp key.now) q then None else lookup (is_at (K.cmp q)) map.old.entries)) }
+{
+    match map.remove(key) {
+        Some(ids) => Ok(ids),
+        None => {
+            let ids = Vec::with_capacity(alloc, 1)?;
+            Ok(ids)
+        }
+    }
+}
+
 /// Puts an id under a key, where those there ascend.
 pub fn add_to<K: Ord + Drop>(alloc: Global, map: &mut Ids<K>, key: K, id: u64) -> Result<(), Memory>
     requires { IsStrictlySortedBy nat_cmp (ids_in K.cmp map.old.entries key) }
     ensures { OnOk result ((q : K) → ids_in K.cmp map.new.entries q ≡ (if is_eq (K.cmp key q) then placed id (ids_in K.cmp map.old.entries key) else ids_in K.cmp map.old.entries q)) }
 {
-    let mut ids = map.remove(&key).unwrap_or(Vec::new(alloc));
+    let mut ids = taken(alloc, map, &key)?;
     add_id(&mut ids, id)?;
     map.insert(key, ids)?;
     Ok(())
@@ -73,24 +89,43 @@ pub fn last_key<K: Ord>(map: &Ids<K>) -> Option<&K>
     None
 }
 
-/// The ids under the positions of a workspace from one on. The keys of a workspace stand together.
+/// Puts an id at a position of a workspace.
+pub fn add_at(
+    places: &mut Positions,
+    space: u32,
+    position: u64,
+    id: u64,
+) -> Result<(), Memory>
+    ensures { OnOk result ((q : ℕ × ℕ) → ids_at_position places.new.keys q ≡ (if (space == q.0) && (position == q.1) then placed id (ids_at_position places.old.keys q) else ids_at_position places.old.keys q)) }
+{
+    places.insert((space, position, id))?;
+    Ok(())
+}
+
+/// Takes an id from a position of a workspace, where it is there.
+pub fn drop_at(places: &mut Positions, space: u32, position: u64, id: u64)
+    ensures { (q : ℕ × ℕ) → ids_at_position places.new.keys q ≡ (if (space == q.0) && (position == q.1) then without id (ids_at_position places.old.keys q) else ids_at_position places.old.keys q) }
+{
+    places.remove(&(space, position, id));
+}
+
+/// The ids at a position of a workspace or behind it, by position. Those of a workspace stand together.
 pub fn ids_since(
     alloc: Global,
-    map: &Ids<(u32, u64)>,
+    places: &Positions,
     space: u32,
     from: u64,
 ) -> Result<Vec<u64>, Memory>
-    ensures since { IfOk result (λ ids. (id : ℕ) → list_any (λ k. k == id) ids.items ≡ list_any (has_since space from id) map.now.entries) }
-    ensures ordered { OnOk result (IsOrdered pair_order map.now) }
+    ensures { IfOk result (λ ids. ids.items ≡ ids_since places.now.keys space from) }
 {
-    let mut since = Vec::new(alloc);
-    for (key, ids) in map.range((space, from)..) {
-        if key.0 != space {
-            return Ok(since);
+    let mut ids = Vec::new(alloc);
+    for place in places.range((space, from, 0)..) {
+        if place.0 != space {
+            return Ok(ids);
         }
-        since.extend_from_slice(ids.as_slice())?;
+        ids.push(place.2)?;
     }
-    Ok(since)
+    Ok(ids)
 }
 
 /// The ids under a table and a key.

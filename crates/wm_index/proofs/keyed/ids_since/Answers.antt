@@ -1,18 +1,19 @@
-use Rattle.std.proofs.Common.{◌++◌, ap, ◌∙◌}
-use Rattle.wm_index.proofs.Since.{finds_all, finds_first, finds_more}
+use Rattle.std.proofs.Common.{◌∙◌}
+use Rattle.wm_index.proofs.Since.{ahead_end, ahead_first, ahead_more, ahead_other}
+use Rattle.wm_index.specs.Sought.{ids_since}
 use Rattle.wm_index.proofs.keyed.ids_since.Goals as goal
 
-pub loop-key-init : goal.loop-key-init
-loop-key-init c =
-    finds_first c.args.space c.args.from c.args.map.now.entries c.into_iter-key-iterator.result c.new-since.result.items c.range-key-items.ensures.ordered
-    (c.into_iter-key-iterator.ensures.into_iter_gives ∙ c.range-key-items.ensures.between tt)
-    c.new-since.ensures.items
+pub loop-place-init : goal.loop-place-init
+loop-place-init c =
+    ahead_first c.args.space c.args.from c.args.places.now.keys c.into_iter-place-iterator.result c.new-ids.result.items c.range-place-items.ensures.ordered
+    (c.into_iter-place-iterator.ensures.into_iter_gives ∙ c.range-place-items.ensures.between tt)
+    c.new-ids.ensures.items
 
-pub returns-then-key-space-clause-since : goal.returns-then-key-space-clause-since
-returns-then-key-space-clause-since c =
-    finds_all c.args.space c.args.from c.args.map.now.entries c.loop-key.key-iterator c.next.new.self c.in-Some.key.now c.in-Some.ids.now c.loop-key.since.items c.loop-key.invariant c.in-Some.ensures.steps c.if-key-space.true
+pub returns-then-place-space : goal.returns-then-place-space
+returns-then-place-space c =
+    ahead_other c.args.space c.in-Some.place.now c.loop-place.place-iterator c.next.new.self c.loop-place.ids.items (ids_since c.args.places.now.keys c.args.space c.args.from) c.loop-place.invariant c.in-Some.ensures.steps c.if-place-space.true
 
-pub loop-key-preserved : goal.loop-key-preserved
-loop-key-preserved c =
-    finds_more c.args.space c.args.from c.args.map.now.entries c.loop-key.key-iterator c.next.new.self c.in-Some.key.now c.in-Some.ids.now c.loop-key.since.items c.extend_from_slice.new.self.items c.loop-key.invariant
-    c.in-Some.ensures.steps c.if-key-space.false (c.in_ok-extend_from_slice.ensures.items ∙ ap (λ l. c.loop-key.since.items ++ l) c.as_slice.ensures.value)
+pub loop-place-preserved : goal.loop-place-preserved
+loop-place-preserved c =
+    ahead_more c.args.space c.in-Some.place.now c.loop-place.place-iterator c.next.new.self c.loop-place.ids.items c.push.new.self.items (ids_since c.args.places.now.keys c.args.space c.args.from) c.loop-place.invariant
+    c.in-Some.ensures.steps c.if-place-space.false c.in_ok-push.ensures.items

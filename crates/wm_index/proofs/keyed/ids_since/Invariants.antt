@@ -1,5 +1,7 @@
-use Rattle.wm_index.proofs.Since.{Finds}
+use Rattle.std.proofs.Common.{◌≡◌, ◌++◌}
+use Rattle.wm_index.proofs.Since.{ids_ahead}
+use Rattle.wm_index.specs.Sought.{ids_since}
 use Rattle.wm_index.proofs.keyed.ids_since.Given as goal
 
-abbrev pub invariant-loop-key : goal.invariant-loop-key
-invariant-loop-key l = Finds l.space l.from l.map.entries l.key-iterator l.since.items
+abbrev pub invariant-loop-place : goal.invariant-loop-place
+invariant-loop-place l = l.ids.items ++ ids_ahead l.space l.place-iterator ≡ ids_since l.places.keys l.space l.from

@@ -1,10 +1,7 @@
 use Rattle.std.proofs.lemmas.Result.{on_ok_weaker}
 use Rattle.wm_index.proofs.Pairs.{touch_changed}
-use Rattle.wm_index.specs.Sought.{TouchAt, TouchesAt, placed}
+use Rattle.wm_index.specs.Sought.{TouchesAt, placed}
 use Rattle.wm_index.proofs.index.Index.add_touch.Goals as goal
-
-pub add_to-requires : goal.add_to-requires
-add_to-requires c = c.requires (TouchAt c.args.touch.now.space c.args.touch.now.position)
 
 pub add_on-requires : goal.add_on-requires
 add_on-requires c = c.requires (TouchesAt c.args.touch.now.cells.table c.args.touch.now.cells.key)
@@ -12,5 +9,5 @@ add_on-requires c = c.requires (TouchesAt c.args.touch.now.cells.table c.args.to
 pub returns-clause-ids : goal.returns-clause-ids
 returns-clause-ids c =
     on_ok_weaker c.add_on.result
-    (touch_changed (placed c.args.id) c.args.self.now c.add_among.new.map c.add_to.new.map c.add_on.new.tables c.args.touch.now c.in_ok-add_among.ensures c.in_ok-add_to.ensures)
+    (touch_changed (placed c.args.id) c.args.self.now c.add_among.new.map c.add_at.new.places c.add_on.new.tables c.args.touch.now c.in_ok-add_among.ensures c.in_ok-add_at.ensures)
     c.add_on.ensures

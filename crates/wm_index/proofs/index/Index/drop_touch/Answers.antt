@@ -1,10 +1,7 @@
 use Rattle.std.proofs.lemmas.Result.{on_ok_weaker}
 use Rattle.wm_index.proofs.Pairs.{touch_changed}
-use Rattle.wm_index.specs.Sought.{TouchAt, TouchesAt, without}
+use Rattle.wm_index.specs.Sought.{TouchesAt, without}
 use Rattle.wm_index.proofs.index.Index.drop_touch.Goals as goal
-
-pub drop_from-requires : goal.drop_from-requires
-drop_from-requires c = c.requires (TouchAt c.args.touch.now.space c.args.touch.now.position)
 
 pub drop_on-requires : goal.drop_on-requires
 drop_on-requires c = c.requires (TouchesAt c.args.touch.now.cells.table c.args.touch.now.cells.key)
@@ -12,5 +9,5 @@ drop_on-requires c = c.requires (TouchesAt c.args.touch.now.cells.table c.args.t
 pub returns-clause-ids : goal.returns-clause-ids
 returns-clause-ids c =
     on_ok_weaker c.drop_on.result
-    (touch_changed (without c.args.id) c.args.self.now c.drop_among.new.map c.drop_from.new.map c.drop_on.new.tables c.args.touch.now c.in_ok-drop_among.ensures c.in_ok-drop_from.ensures)
+    (touch_changed (without c.args.id) c.args.self.now c.drop_among.new.map c.drop_at.new.places c.drop_on.new.tables c.args.touch.now c.in_ok-drop_among.ensures c.drop_at.ensures)
     c.drop_on.ensures
