@@ -71,7 +71,11 @@ class Store:
         found += [self.spaces[part.space] for part in [*self.savepoints, *self.history, *self.touches, *self.marks, *self.turns]]
         found += [self.spaces[space.parent] for space in self.spaces.values()]
         found += [self.rows[part.stamp] for part in [*pieces, *self.history] if not part.is_gone]
-        found += [self.path(version) for version in self.versions]
+        stacked = [version for version in self.versions.values() if version.parent != NO_VERSION]
+        found += [self.versions[version.parent] for version in stacked]
+        # So each path has an end.
+        if any(version.parent >= version.number for version in stacked):
+            raise Damaged(0, "graph")
 
     # Workspaces and versions
 
@@ -85,8 +89,6 @@ class Store:
         """The version, the one it stands under, and so on up."""
         found = []
         while version != NO_VERSION:
-            if version in found:
-                raise Damaged(0, "graph")
             found.append(version)
             version = self.versions[version].parent
         return found
