@@ -6,10 +6,11 @@ changed what and when in tables with history, and what a merge would find in con
 docs/FORMAT.md says, and never written; no run is needed.
 
     --log N      so many of the last changes (20)
-    --html FILE  writes a page with pictures instead, for a browser
+    --html FILE  writes a page with pictures instead, for a browser; over what is there, unless that is a store
     --keys N     so many keys of a table are drawn on the page, the last changed ones (40)
 
-The status is 0, or 1 where the file is no store or is damaged; the damage is named as the program names it.
+The status is 0, or 1 where the file is no store or is damaged, or no page can be written. Damage is named as the
+program names it; not all that its `check` tests is looked at, so a damaged store may be shown.
 """
 import argparse
 import signal
@@ -19,20 +20,46 @@ from pathlib import Path
 sys.path.insert(1, str(Path(__file__).resolve().parents[1]))
 
 from shown import shown
-from storefile.pages import Damaged, NotAStore
+from storefile.pages import MADE, Damaged, NotAStore
 from storefile.store import opened
+
+
+def count(text):
+    """How many of something."""
+    if not text.isdecimal():
+        raise ValueError(text)
+    return int(text)
 
 
 def asked():
     parser = argparse.ArgumentParser(prog="show", usage=__doc__.split("\n")[0], add_help=False)
     parser.add_argument("store", type=Path)
-    parser.add_argument("--log", type=int, default=20)
-    parser.add_argument("--keys", type=int, default=40)
+    parser.add_argument("--log", type=count, default=20)
+    parser.add_argument("--keys", type=count, default=40)
     parser.add_argument("--html", type=Path)
     if {"--help", "-h"} & set(sys.argv[1:]) or len(sys.argv) == 1:
         print(__doc__.strip())
         sys.exit(0 if len(sys.argv) > 1 else 2)
     return parser.parse_args()
+
+
+def begins_as_a_store(path):
+    """Whether a file there has the first byte of a store. The one that is shown has it, by whatever name."""
+    if not path.is_file():
+        return False
+    with path.open("rb") as file:
+        return file.read(1) == bytes([MADE])
+
+
+def write_page(path, page):
+    """Writes the page. The status, or why there is none."""
+    try:
+        if begins_as_a_store(path):
+            return f"show: {path} is a store or begins as one, and is not written over"
+        path.write_text(page, encoding="utf-8")
+    except OSError as error:
+        return f"show: {path}: {error.strerror}"
+    return 0
 
 
 def main():
@@ -45,10 +72,9 @@ def main():
         return f"show: {damage}"
     except OSError as error:
         return f"show: {words.store}: {error.strerror}"
-    if words.html is None:
-        print(text)
-    else:
-        words.html.write_text(page, encoding="utf-8")
+    if words.html is not None:
+        return write_page(words.html, page)
+    print(text)
     return 0
 
 

@@ -8,11 +8,12 @@ from itertools import combinations
 from around import PROGRAM, WithFolder, made, run, store_of_examples, store_of_tutorial, tool
 from random_stores import Writer
 from shown import shown
-from storefile.pages import SIZE, Damaged, NotAStore
+from storefile.pages import SIZE, Damaged, NotAStore, Pages
 from storefile.store import LIVE, opened
 from storefile.values import printed
 
 SEEDS, LINES, DAMAGES, ROWS = 16, 90, 150, 400
+VERSION = 4  # the tag of its record
 
 
 def text(name):
@@ -320,6 +321,29 @@ class Files(WithFolder):
         self.assertEqual(tool("show", store, "--html", self.folder / "s.html").returncode, 0)
         self.assertEqual((store.read_bytes(), store.stat().st_mtime_ns), (before, moment))
 
+    def test_page_is_written_over_no_store(self):
+        store = store_of_examples(self.store)
+        link, copy, older = self.folder / "link.html", self.folder / "copy.html", self.folder / "older.html"
+        link.symlink_to(store)
+        shutil.copyfile(store, copy)
+        older.write_text("an older page")
+        before = store.read_bytes()
+        for path, why in ((store, "is a store"), (link, "is a store"), (copy, "is a store"),
+                          (self.folder, "Is a directory"), (self.folder / "none" / "s.html", "No such file")):
+            done = tool("show", store, "--html", path)
+            self.assertEqual((done.returncode, done.stderr.count("\n")), (1, 1))
+            self.assertIn(why, done.stderr)
+        self.assertEqual((store.read_bytes(), copy.read_bytes(), link.is_symlink()), (before, before, True))
+        self.assertEqual(tool("show", store, "--html", older).returncode, 0)
+        self.assertTrue(older.read_text().startswith("<!doctype html>"))
+
+    def test_counts_are_none_below_nothing(self):
+        store = store_of_examples(self.store)
+        self.assertIn("the last 0 of", tool("show", store, "--log", "0").stdout)
+        for name in ("--log", "--keys"):
+            done = tool("show", store, name, "-1")
+            self.assertEqual((done.returncode, done.stdout, "invalid count value: '-1'" in done.stderr), (2, "", True))
+
     def test_open_journal(self):
         """A stop behind the second step of a change: the journal has the pages, and shows what the change made."""
         store = store_of_tutorial(self.store, "planner")
@@ -342,6 +366,14 @@ class Files(WithFolder):
             # Of the rules over all records the reader looks only at those that it relies on.
             if complaint != "damaged page 0 graph" or told:
                 self.assertEqual(told, complaint)
+
+    def test_version_that_does_not_stand_under_an_older_one(self):
+        whole = store_of_examples(self.store).read_bytes()
+        record = next(data for _, _, data in Pages(whole).slots() if data[0] == VERSION and data[13:] != bytes(8))
+        for parent in (record[1:9], bytes(7) + b"\xff"):
+            self.store.write_bytes(whole.replace(record, record[:13] + parent))
+            self.assertEqual(self.told(), "damaged page 0 graph")
+            self.assertIn(b"damaged page 0 graph", run(self.store, "2030-01-01", b"").stderr)
 
     def told(self):
         """What the reader says of the store, which it shows if nothing is wrong."""
