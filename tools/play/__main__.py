@@ -18,6 +18,7 @@ program's own.
 """
 import argparse
 import os
+import re
 import sys
 from datetime import datetime, timezone
 from pathlib import Path
@@ -34,12 +35,30 @@ from storefile.pages import MADE, Damaged, NotAStore
 from storefile.use import has_a_run
 
 GREATEST_LIMIT = 1_048_576
-REASONS = {"wm: disk fault": "the store could not be read or written, or another run has it open",
-           "wm: usage": "--now is a day, '2024-06-01', or a day and a time, '2024-06-01 17:30:00'"}
+MOMENT = re.compile(r"\d{4}-\d\d-\d\d([ T]\d\d:\d\d:\d\d)?", re.ASCII)
+REASONS = {"wm: disk fault": "the store could not be read or written, or another run has it open"}
 
 
 class Refused(Exception):
     """Why nothing is played."""
+
+
+def limit(text):
+    """What --limit gives."""
+    if not text.isdecimal() or not 1 <= int(text) <= GREATEST_LIMIT:
+        raise Refused(f"--limit is a number from 1 to {GREATEST_LIMIT}")
+    return int(text)
+
+
+def moment(text):
+    """What --now gives."""
+    try:
+        if MOMENT.fullmatch(text):
+            datetime.fromisoformat(text)
+            return text
+    except ValueError:
+        pass  # the calendar has no such day or time
+    raise Refused("--now is a day, '2024-06-01', or a day and a time, '2024-06-01 17:30:00'")
 
 
 def asked():
@@ -48,8 +67,8 @@ def asked():
     parser.add_argument("script", type=Path, nargs="?")
     for name in ("new", "stop", "csv", "quiet", "help"):
         parser.add_argument(f"--{name}", action="store_true")
-    parser.add_argument("--limit", type=int, default=GREATEST_LIMIT)
-    parser.add_argument("--now")
+    parser.add_argument("--limit", type=limit, default=GREATEST_LIMIT)
+    parser.add_argument("--now", type=moment)
     parser.add_argument("--program")
     if {"--help", "-h"} & set(sys.argv[1:]) or len(sys.argv) == 1:
         print(__doc__.strip())
@@ -92,9 +111,10 @@ def warn_of_moment(words, catalog):
         last = str(catalog.last_moment())
     except (Damaged, NotAStore, ValueError):
         return
-    if last > words.now.replace("T", " "):
+    begins = str(datetime.fromisoformat(words.now))
+    if last > begins:
         print(f"play: the store's last change is of {last}, so the run begins then", file=sys.stderr)
-    if words.now > clock():
+    if begins > clock():
         print(f"play: {words.now} is later than the clock; once a line changes something, the store stays there", file=sys.stderr)
 
 
@@ -143,8 +163,9 @@ def play_script(play, lines, catalog, is_told):
     progress.close()
     left = len(lines) - play.number
     if is_told:
+        unanswered = ", 1 not answered" if play.unanswered else ""
         stopped = f"; stopped at line {play.number}, {left} not played" if left else ""
-        print(f"play: {play.accepted} accepted, {play.refused} refused{stopped}", file=sys.stderr)
+        print(f"play: {play.accepted} accepted, {play.refused} refused{unanswered}{stopped}", file=sys.stderr)
 
 
 def play_at_terminal(play, catalog):
@@ -171,8 +192,8 @@ def main():
         data = None if words.script is None else words.script.read_bytes()
         see_to_store(words, program)
         held = hold(words.store)
-    except NoProgram:
-        raise Refused("there is no built program: 'make wm' builds it, and --program names another") from None
+    except NoProgram as why:
+        raise Refused(why) from None
     except InUse:
         raise Refused(f"another play has {words.store} open") from None
     except OSError as error:

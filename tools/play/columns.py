@@ -1,7 +1,7 @@
 """The names of the columns that a query answers."""
 import re
 
-SELECT = re.compile(r"\s*[A-Za-z][\w$#]*\s*:\s*SELECT\s+(?:DISTINCT\b\s*)?", re.IGNORECASE)
+SELECT = re.compile(r"\s*[A-Za-z][\w$#]*\s*:\s*SELECT(?![\w$#])\s*(?:DISTINCT(?![\w$#]))?", re.IGNORECASE)
 TOKEN = re.compile(r"\s*('(?:[^']|'')*'|[A-Za-z][\w$#]*|\d+|.)", re.DOTALL)
 ENDS_SOURCES = {"WHERE", "GROUP", "ORDER", ";"}
 OF_A_TABLE = re.compile(r"(?!WM_VALID\.)[A-Z][\w$#]*\.([A-Z][\w$#]*(?:\.VALID(?:FROM|TILL))?)")

@@ -10,6 +10,9 @@ OF_LIVE = "LIVE has no conflicts: SetConflictWorkspace names the workspace that 
 SAID = re.compile(r"\s*([A-Za-z][\w$#]*)\s*:\s*(.*)", re.DOTALL)
 CONNECT = re.compile(r"\s*CONNECT\s+([A-Za-z][\w$#]*)\s", re.IGNORECASE)
 CALL = re.compile(r"EXEC(?:UTE)?\s+DBMS_WM\s*\.\s*(\w+)\s*(?:\(\s*(.*?)\s*\))?\s*;?\s*", re.IGNORECASE | re.DOTALL)
+# Arguments of SetValidTime. Others may mean it too; of those nothing is known.
+ALL_OF_TIME = re.compile(r"(?:validFrom\s*=>\s*)?(?:DATE|TIMESTAMP)\s*'0001-01-01(?:[ T]00:00:00)?'"
+                         r"(?:\s*,\s*(?:validTill\s*=>\s*)?(?:NULL|DBMS_WM\s*\.\s*UNTIL_CHANGED))?", re.IGNORECASE)
 CHANGE = re.compile(r"(?:UPDATE|DELETE(?:\s+FROM)?)\s+([A-Za-z][\w$#]*)", re.IGNORECASE)
 INSERT = re.compile(r"INSERT\s+INTO\s+([A-Za-z][\w$#]*)", re.IGNORECASE)
 CONFLICTS = re.compile(r"SELECT\b.*\bFROM\b.*_CONF\b", re.IGNORECASE | re.DOTALL)
@@ -20,8 +23,8 @@ class Hints:
     """Follows the lines of a run, and knows which session has set a period, where each stands and at whose conflicts it looks."""
 
     def __init__(self, catalog):
-        self.catalog, self.with_period = catalog, set()
-        self.standing, self.looking = {}, {}  # texts as the lines have them
+        self.catalog = catalog
+        self.periods, self.standing, self.looking = {}, {}, {}  # texts as the lines have them
 
     def hint(self, line, answer):
         """What is to be said behind the answer of a line, or None."""
@@ -39,10 +42,8 @@ class Hints:
         """A session begins without a period."""
         found = CONNECT.match(line)
         if found:
-            session = found[1].upper()
-            self.with_period.discard(session)
-            self.standing.pop(session, None)
-            self.looking.pop(session, None)
+            for held in (self.periods, self.standing, self.looking):
+                held.pop(found[1].upper(), None)
 
     def called(self, session, procedure, arguments, is_refused):
         if procedure in ("GOTOWORKSPACE", "GOTOSAVEPOINT") and is_refused:
@@ -51,17 +52,18 @@ class Hints:
         if procedure in ("GOTOWORKSPACE", "SETCONFLICTWORKSPACE") and name and not is_refused:
             (self.standing if procedure == "GOTOWORKSPACE" else self.looking)[session] = name[0]
         if procedure == "SETVALIDTIME" and not is_refused:
-            (self.with_period.add if arguments else self.with_period.discard)(session)
+            self.periods[session] = arguments
         return None
 
     def changed(self, session, statement, answer):
         change, insert = CHANGE.match(statement), INSERT.match(statement)
-        if change and answer == [b"DONE 0"] and self.has_valid_time(change[1]):
+        period = self.periods.get(session) or ""
+        if change and answer == [b"DONE 0"] and not ALL_OF_TIME.fullmatch(period) and self.has_valid_time(change[1]):
             return NOT_SHOWN
         if answer == [b"ROWS 0"] and CONFLICTS.match(TEXT.sub("", statement)) and self.looks_at(session) == "'LIVE'":
             return OF_LIVE
         names_period = re.search(r"\bWM_PERIOD\b", TEXT.sub("", statement), re.IGNORECASE)
-        if insert and answer == [b"DONE 1"] and session not in self.with_period and not names_period and self.has_valid_time(insert[1]):
+        if insert and answer == [b"DONE 1"] and not period and not names_period and self.has_valid_time(insert[1]):
             return ALL_TIME
         return None
 

@@ -15,19 +15,30 @@ class Ended(Exception):
 
 
 class NoProgram(Exception):
-    """There is no built program."""
+    """Why there is nothing to play through."""
 
 
 def found_program(asked):
     """The words that begin a call of the program: those asked for, else the one built here, else the one on the path."""
     asked = asked or os.environ.get("WM")
     if asked:
-        return shlex.split(asked)
+        return named_program(asked)
     built = REPOSITORY / "build" / "wm"
     found = str(built) if built.is_file() else shutil.which("wm")
     if found is None:
-        raise NoProgram
+        raise NoProgram("there is no built program: 'make wm' builds it, and --program names another")
     return [found]
+
+
+def named_program(asked):
+    """The words of a command, of which the first is a program that is there."""
+    try:
+        words = shlex.split(asked)
+    except ValueError:
+        words = []
+    if not words or shutil.which(words[0]) is None:
+        raise NoProgram(f"there is no program {asked}")
+    return words
 
 
 class Program:

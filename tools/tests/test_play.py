@@ -62,7 +62,9 @@ class Lines(Played):
 
     def test_star_has_the_names_of_the_tables(self):
         store_of_examples(self.store)
-        self.assertIn("     PARCEL | AREA | MARKS                   | WM_VALID", self.lines(b"CONNECT A ANN\nA: SELECT * FROM boundary;\n"))
+        for query in (b"A: SELECT * FROM boundary;", b"A:SELECT*FROM boundary", b"A:SELECT DISTINCT*FROM boundary"):
+            said = self.lines(b"CONNECT A ANN\n" + query + b"\n")
+            self.assertIn("     PARCEL | AREA | MARKS                   | WM_VALID", said)
         self.assertIn("     NR | NAME  | ID | TEAM | WHAT          | EUROS | DUE",
                       self.lines(b"CONNECT A ANN\nA: SELECT * FROM TEAM t INNER JOIN COST c ON t.NR = c.TEAM WHERE t.NR = 2\n"))
 
@@ -103,6 +105,15 @@ class Hinted(Played):
                          ["this row holds for all of time", "no such row holds in the session's period", "A stands where it stood"])
         self.assertEqual(self.hints(b"CONNECT A ANN\nA: DELETE FROM T\n", "--quiet"), [])
 
+    def test_all_of_time_shows_each_row(self):
+        made(self.store)
+        self.lines(TABLE.replace(b"'T'", b"'T', validTime => TRUE"))
+        for period, count in ((b"DATE '0001-01-01'", 0), (b"TIMESTAMP '0001-01-01 00:00:00', DBMS_WM.UNTIL_CHANGED", 0),
+                              (b" validfrom=>DATE'0001-01-01' , validTill => NULL ", 0),
+                              (b"DATE '0001-01-01', SYSDATE", 1), (b"DATE '0001-01-02'", 1), (b"", 1)):
+            script = b"CONNECT A ANN\nA: EXECUTE DBMS_WM.SetValidTime(" + period + b")\nA: DELETE FROM T\n"
+            self.assertEqual(len(self.hints(script + b"CONNECT B BEN\nB: DELETE FROM T\n")), count + 1, period)
+
     def test_no_conflicts_of_live(self):
         made(self.store)
         script = TABLE + (b"A: EXECUTE DBMS_WM.CreateWorkspace('W')\nA: SELECT * FROM T_CONF\nA: SELECT * FROM T\nA: SELECT 'T_CONF' FROM T\n"
@@ -120,7 +131,10 @@ class Ends(Played):
         made(self.store)
         self.assertEqual(self.play(TABLE).returncode, 0)
         self.assertEqual(self.play(REFUSED).returncode, 1)
-        self.assertEqual(self.play(TABLE, "--now", "yesterday").returncode, 2)
+        for now in ("yesterday", "2024-02-30", "2024-06-01 17:30"):
+            done = self.play(TABLE, "--now", now)
+            self.assertEqual((done.returncode, done.stderr.count("\n")), (2, 1))
+            self.assertIn("--now is a day", done.stderr)
 
     def test_stop_at_the_first_refusal(self):
         made(self.store)
@@ -138,6 +152,7 @@ class Ends(Played):
         path.write_bytes(TABLE)
         done = tool("play", self.store, path, "--program", f"{sys.executable} {stub}")
         self.assertEqual(done.returncode, 10)
+        self.assertIn("1 accepted, 0 refused, 1 not answered; stopped at line 2, 1 not played", done.stderr)
         self.assertIn("line 2 was not answered: wm: out of memory", done.stderr)
 
     def test_damaged_store(self):
@@ -157,10 +172,18 @@ class Stores(Played):
         self.assertEqual(self.store.read_bytes(), TABLE)
 
     def test_new_store(self):
-        self.assertEqual(self.play(TABLE, "--new", "--limit", "0").returncode, 2)
+        for limit in ("0", "-1", "1048577"):
+            done = self.play(TABLE, "--new", "--limit", limit)
+            self.assertEqual((done.returncode, done.stderr), (2, "play: --limit is a number from 1 to 1048576\n"))
         self.assertFalse(self.store.exists())
         self.assertEqual(self.play(TABLE, "--new").returncode, 0)
         self.assertIn("1,048,576 left of 1,048,576", tool("show", self.store).stdout)
+
+    def test_no_program(self):
+        made(self.store)
+        for program in (str(self.folder / "none"), str(self.store), "'"):
+            done = self.play(TABLE, "--program", program)
+            self.assertEqual((done.returncode, done.stderr), (2, f"play: there is no program {program}\n"))
 
     def test_two_plays_of_one_store_are_kept_apart(self):
         made(self.store)
@@ -205,6 +228,7 @@ class Stores(Played):
         made(self.store)
         self.assertIn("later than the clock", self.play(TABLE, "--now", "2942-06-01").stderr)
         self.assertIn("last change is of 2942-06-01", self.play(b"").stderr)
+        self.assertNotIn("last change", self.play(b"", "--now", "2942-06-01").stderr)
 
 
 class Terminal(Played):
