@@ -92,6 +92,7 @@ install: build/wm
 	install -D -m 644 docs/wm.1 "$(DESTDIR)$(PREFIX)/share/man/man1/wm.1"
 	mkdir -p "$(DESTDIR)$(PREFIX)/share/wm"
 	cp -R tools/play tools/show tools/storefile tools/insert_lines.py "$(DESTDIR)$(PREFIX)/share/wm"
+	install -D -m 644 tools/against/tokens.py "$(DESTDIR)$(PREFIX)/share/wm/against/tokens.py"
 	find "$(DESTDIR)$(PREFIX)/share/wm" -name __pycache__ -prune -exec rm -rf {} +
 	for tool in play show insert_lines.py; do \
 	    printf '#!/bin/sh\nexec %s "%s/share/wm/%s" "$$@"\n' "$(PYTHON)" "$(PREFIX)" "$$tool" \

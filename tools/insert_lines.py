@@ -25,16 +25,23 @@ from pathlib import Path
 
 sys.path.insert(1, str(Path(__file__).resolve().parent))
 
+from against.tokens import RESERVED
+
 NAME = re.compile(r"[A-Za-z][A-Za-z0-9_$#]*")
 NUMBER = re.compile(r"-?(0|[1-9]\d*)")
 DAY, TIME = re.compile(r"\d{4}-\d\d-\d\d"), re.compile(r"\d{4}-\d\d-\d\d[ T]\d\d:\d\d:\d\d")
 UNTIL_CHANGED = "UNTIL_CHANGED"
+ENDS = {"VALIDFROM", "VALIDTILL"}  # reserved, but where a column is named
 LONGEST = 16_384
 KINDS = {1: "number", 2: "text", 3: "time"}
 
 
 class NoStatement(Exception):
     """Why a line of the file cannot be a statement."""
+
+
+class NoScript(Exception):
+    """Why no file makes a script with these words."""
 
 
 def asked():
@@ -61,12 +68,34 @@ def guessed(values):
     return "time" if there and all(map(is_time, there)) else "text"
 
 
+def is_name(text):
+    """Whether the language takes it for a name."""
+    return NAME.fullmatch(text) is not None and text.upper() not in RESERVED
+
+
+def see_to_names(words):
+    for kind, name in (("table", words.table), ("session", words.session_), ("user", words.user_)):
+        if name is not None and not is_name(name):
+            raise NoScript(f"{name!r} is no name of a {kind}")
+
+
+def tables_of(store):
+    """The tables in a store."""
+    from storefile.pages import Damaged, NotAStore
+    from storefile.store import opened
+    try:
+        return opened(store).tables.values()
+    except NotAStore:
+        raise NoScript(f"{store} is no store") from None
+    except Damaged as damage:
+        raise NoScript(f"{store}: {damage}") from None
+
+
 def kinds_of(store, table, names):
     """The kinds of the columns of a table in a store."""
-    from storefile.store import opened
-    found = next((other for other in opened(store).tables.values() if other.name == table.upper()), None)
+    found = next((other for other in tables_of(store) if other.name == table.upper()), None)
     if found is None:
-        raise NoStatement(f"{store} has no table {table.upper()}")
+        raise NoScript(f"{store} has no table {table.upper()}")
     kinds = {column.name: KINDS[column.kind] for column in found.columns}
     missing = next((name for name in names if name not in kinds), None)
     if missing:
@@ -123,7 +152,7 @@ def statements(words, rows):
     names = [name.strip().upper() for name in rows[0]]
     begin, till = period_columns(words, names)
     plain = [place for place in range(len(names)) if place not in (begin, till)]
-    bad = next((names[place] for place in plain if not NAME.fullmatch(names[place])), None)
+    bad = next((names[place] for place in plain if not is_name(names[place]) and names[place] not in ENDS), None)
     if bad is not None:
         raise NoStatement(f"line 1: {bad!r} is no name of a column")
     listed = ", ".join([names[place] for place in plain] + ["WM_VALID"] * (begin is not None))
@@ -149,12 +178,17 @@ def statements(words, rows):
 def main():
     words = asked()
     try:
+        see_to_names(words)
         with words.file.open(newline="", encoding="utf-8-sig") as file:
             rows = [row for row in csv.reader(file, delimiter=words.separator_) if row]
         if not rows:
             raise NoStatement("the file is empty")
         lines = list(statements(words, rows))
-    except (OSError, NoStatement, csv.Error, UnicodeDecodeError) as why:
+    except NoScript as why:
+        return f"insert_lines: {why}"
+    except OSError as error:
+        return f"insert_lines: {error.filename}: {error.strerror}"
+    except (NoStatement, csv.Error, UnicodeDecodeError) as why:
         return f"insert_lines: {words.file}: {why}"
     if words.user_:
         print(f"CONNECT {words.session_} {words.user_}")

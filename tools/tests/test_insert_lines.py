@@ -6,10 +6,10 @@ TABLES = (b"CONNECT A ANN\nA: CREATE TABLE LOT (NR NUMBER PRIMARY KEY, CODE VARC
 
 
 class InsertLines(WithFolder):
-    def lines(self, text, *words):
+    def lines(self, text, *words, table="LOT"):
         path = self.folder / "s.csv"
         path.write_text(text, encoding="utf-8")
-        return tool("insert_lines.py", "LOT", path, *words)
+        return tool("insert_lines.py", table, path, *words)
 
     def held(self, script):
         """What the table holds when the lines were played."""
@@ -42,6 +42,24 @@ class InsertLines(WithFolder):
 
     def test_what_cannot_be_a_statement_is_told(self):
         for text, why in [("", "empty"), ("NR,CODE\n1\n", "line 2: 1 values"), ('NR,CODE\n1,"a\nb"\n', "several lines"), ("NR,A B\n1,2\n", "no name"),
-                          ("NR,VALIDFROM\n1,soon\n", "no day or time")]:
+                          ("NR,VALIDFROM\n1,soon\n", "no day or time"), ("NR,select\n1,2\n", "'SELECT' is no name")]:
             done = self.lines(text)
             self.assertEqual((done.returncode, done.stdout, why in done.stderr), (1, "", True), done.stderr)
+
+    def test_what_no_file_is_asked_for_is_told(self):
+        """Names that the language does not have, and files that are not there or are none of the kind."""
+        none, other = self.folder / "none", self.folder / "s.csv"
+        missing = f"{none}: No such file or directory"
+        for table, words, why in [("bad name", [], "'bad name' is no name of a table"),
+                                  ("date", [], "'date' is no name of a table"),
+                                  ("LOT", ["--session", "A B"], "'A B' is no name of a session"),
+                                  ("LOT", ["--user", "ON"], "'ON' is no name of a user"),
+                                  ("LOT", ["--store", none], missing),
+                                  ("LOT", ["--store", other], f"{other} is no store")]:
+            done = self.lines("NR\n1\n", *words, table=table)
+            self.assertEqual((done.returncode, done.stdout, done.stderr), (1, "", f"insert_lines: {why}\n"))
+        self.assertEqual(tool("insert_lines.py", "LOT", none).stderr, f"insert_lines: {missing}\n")
+
+    def test_ends_of_a_period_may_be_columns(self):
+        done = self.lines("NR,VALIDFROM,SINCE\n1,2,2020-01-01\n", "--from", "since")
+        self.assertIn("(NR, VALIDFROM, WM_VALID)", done.stdout)
