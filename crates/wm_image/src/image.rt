@@ -44,6 +44,7 @@ use wm_index::index::Index;
 use wm_index::keyed::{ids_of, ids_on, ids_since, last_key};
 use wm_index::kinds;
 use wm_index::records::{Kept, at, first, next_id};
+use wm_index::rows::ids_of_stamp;
 use wm_index::savepoints::{making_after, savepoint_in, savepoint_of_name};
 use wm_index::sets::ids_among;
 use wm_index::spaces::{number_after, space_of_name};
@@ -449,7 +450,7 @@ impl Image {
     pub fn row(&self, stamp: u64) -> Option<&RowRecord>
         ensures { option_copied result ≡ row_of (parts_of self.now).rows stamp }
     {
-        kinds::row_of(first(&self.kept, ids_of(&self.index.rows, &stamp)))
+        kinds::row_of(first(&self.kept, ids_of_stamp(&self.index.rows, stamp)))
     }
 
     /// The record of an id.

@@ -14,3 +14,4 @@ pub mod Since
 pub mod Touched
 pub mod Positions
 pub mod Widening
+pub mod RowLists

@@ -6,6 +6,7 @@ use Rattle.wm_chunks.specs.Numbers.{AreOrdered, Numbers}
 use Rattle.wm_spec.specs.declared.record.Record.{Record}
 use Rattle.wm_spec.specs.declared.record.stored.Stored.{Stored}
 use Rattle.wm_index.specs.Sought.{Sought, TheCounters, Tables, Spaces, SpaceAt, VersionAt, VersionIn, VersionsUnder, SavepointsOf, SavepointAt, KeptAs, KeptUnder, BornAs, SeenUnder, RowAt, PieceAt, TouchesAt, MarksAt, PiecesIn, OwnedBy, MarksIn, TouchAt, TurnAt, HistsOn, is_sought, ids_with, placed, without, ids_among, ids_at_position, ids_in, number_ids, pair_order, piece_ids}
+use Rattle.wm_index.specs.Rows.{row_ids}
 use Rattle.wm_index.specs.Versioned.{AllNested, AllSpanned, ids_under, versions_on}
 use Rattle.wm_index.specs.declared.index.Index.{Index}
 
@@ -24,7 +25,7 @@ ids_at x (KeptAs version) = ids_in nat_cmp x.kept_as.entries version
 ids_at x (KeptUnder version) = ids_in nat_cmp x.kept_under.entries version
 ids_at x (BornAs version) = ids_in nat_cmp x.born_as.entries version
 ids_at x (SeenUnder version) = ids_in nat_cmp x.seen_under.entries version
-ids_at x (RowAt stamp) = ids_in nat_cmp x.rows.entries stamp
+ids_at x (RowAt stamp) = row_ids x.rows stamp
 ids_at x (PieceAt table key version) = ids_under (versions_on x.pieces.entries table key) version
 ids_at x (TouchesAt table key) = piece_ids x.touches.entries table key
 ids_at x (MarksAt table key) = piece_ids x.marks.entries table key

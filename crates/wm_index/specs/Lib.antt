@@ -1,5 +1,6 @@
 pub mod Sought
 pub mod Versioned
+pub mod Rows
 pub mod Indexed
 pub mod Kinds
 pub mod Hists

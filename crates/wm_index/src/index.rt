@@ -8,6 +8,7 @@ ghost use Rattle.wm_spec.specs.declared.record.Record.TheVariants as records;
 
 use crate::ids::{add_id, drop_id};
 use crate::keyed::{Ids, NumberIds, Positions, TableIds, add_at, add_in, add_on, add_to, drop_at, drop_from, drop_in, drop_on};
+use crate::rows::{RowIds, add_row, drop_row, no_rows};
 use crate::sets::{IdSets, add_among, drop_among};
 use crate::versioned::{PieceIds, add_piece_id, drop_piece_id};
 use std::alloc::Global;
@@ -37,7 +38,7 @@ pub struct Index {
     pub kept_under: Ids<u64>,
     pub born_as: Ids<u64>,
     pub seen_under: Ids<u64>,
-    pub rows: Ids<u64>,
+    pub rows: RowIds,
     pub pieces: PieceIds,
     pub touches: TableIds,
     pub marks: TableIds,
@@ -69,7 +70,7 @@ impl Index {
             kept_under: BTreeMap::new(alloc),
             born_as: BTreeMap::new(alloc),
             seen_under: BTreeMap::new(alloc),
-            rows: BTreeMap::new(alloc),
+            rows: no_rows(alloc),
             pieces: BTreeMap::new(alloc),
             touches: BTreeMap::new(alloc),
             marks: BTreeMap::new(alloc),
@@ -95,7 +96,7 @@ impl Index {
             Record::Space(space) => self.add_space(alloc, id, space),
             Record::Version(version) => self.add_version(alloc, id, version),
             Record::Savepoint(savepoint) => self.add_savepoint(alloc, id, savepoint),
-            Record::Row(row) => add_to(alloc, &mut self.rows, row.stamp, id),
+            Record::Row(row) => add_row(alloc, &mut self.rows, row.stamp, id),
             Record::Piece(piece) => self.add_piece(alloc, id, piece),
             Record::Touch(touch) => self.add_touch(alloc, id, touch),
             Record::Lock(lock) => add_among(alloc, &mut self.owned, lock.space, id),
@@ -231,7 +232,7 @@ impl Index {
             Record::Space(space) => self.drop_space(id, space),
             Record::Version(version) => self.drop_version(id, version),
             Record::Savepoint(savepoint) => self.drop_savepoint(id, savepoint),
-            Record::Row(row) => drop_from(&mut self.rows, row.stamp, id),
+            Record::Row(row) => drop_row(&mut self.rows, row.stamp, id),
             Record::Piece(piece) => self.drop_piece(alloc, id, piece),
             Record::Touch(touch) => self.drop_touch(alloc, id, touch),
             Record::Lock(lock) => drop_among(&mut self.owned, lock.space, id),

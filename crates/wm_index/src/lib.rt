@@ -8,6 +8,7 @@ pub mod index;
 pub mod keyed;
 pub mod kinds;
 pub mod records;
+pub mod rows;
 pub mod savepoints;
 pub mod sets;
 pub mod spaces;

@@ -7,5 +7,5 @@ add_id-requires c = c.requires.ascend TheCounters
 pub add_id-requires-in-Table : goal.add_id-requires-in-Table
 add_id-requires-in-Table c = c.requires.ascend Tables
 
-pub add_to-requires : goal.add_to-requires
-add_to-requires c = c.requires.ascend (RowAt c.in-Row.row.stamp)
+pub add_row-requires : goal.add_row-requires
+add_row-requires c = c.requires.ascend (RowAt c.in-Row.row.stamp)

@@ -7,5 +7,5 @@ drop_id-requires c = c.requires.ascend TheCounters
 pub drop_id-requires-in-Table : goal.drop_id-requires-in-Table
 drop_id-requires-in-Table c = c.requires.ascend Tables
 
-pub drop_from-requires : goal.drop_from-requires
-drop_from-requires c = c.requires.ascend (RowAt c.in-Row.row.stamp)
+pub drop_row-requires : goal.drop_row-requires
+drop_row-requires c = c.requires.ascend (RowAt c.in-Row.row.stamp)
