@@ -73,10 +73,12 @@ def is_name(text):
     return NAME.fullmatch(text) is not None and text.upper() not in RESERVED
 
 
-def see_to_names(words):
+def see_to_words(words):
     for kind, name in (("table", words.table), ("session", words.session_), ("user", words.user_)):
         if name is not None and not is_name(name):
             raise NoScript(f"{name!r} is no name of a {kind}")
+    if len(words.separator_) != 1:
+        raise NoScript(f"{words.separator_!r} is not one character")
 
 
 def tables_of(store):
@@ -178,7 +180,7 @@ def statements(words, rows):
 def main():
     words = asked()
     try:
-        see_to_names(words)
+        see_to_words(words)
         with words.file.open(newline="", encoding="utf-8-sig") as file:
             rows = [row for row in csv.reader(file, delimiter=words.separator_) if row]
         if not rows:

@@ -54,6 +54,7 @@ class InsertLines(WithFolder):
                                   ("date", [], "'date' is no name of a table"),
                                   ("LOT", ["--session", "A B"], "'A B' is no name of a session"),
                                   ("LOT", ["--user", "ON"], "'ON' is no name of a user"),
+                                  ("LOT", ["--separator", "||"], "'||' is not one character"),
                                   ("LOT", ["--store", none], missing),
                                   ("LOT", ["--store", other], f"{other} is no store")]:
             done = self.lines("NR\n1\n", *words, table=table)
