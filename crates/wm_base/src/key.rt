@@ -29,7 +29,7 @@ impl Key {
     pub fn single(alloc: Global, value: Value) -> Result<Key, Memory>
         ensures { IfOk result (λ key. key ≡ value ∷ []) }
     {
-        let mut values = Values::new(alloc);
+        let mut values = Values::with_capacity(alloc, 1)?;
         values.push(value)?;
         Ok(Key { values })
     }

@@ -31,6 +31,14 @@ impl Values {
         }
     }
 
+    /// No values, with room for so many.
+    pub fn with_capacity(alloc: Global, count: usize) -> Result<Values, Memory>
+        ensures { IfOk result (λ values. values ≡ []) }
+    {
+        let list = Vec::with_capacity(alloc, count)?;
+        Ok(Values { list })
+    }
+
     pub fn from_vec(list: Vec<Value>) -> Values
         ensures { result ≡ list.items }
     {

@@ -34,7 +34,7 @@ pub fn column_of(alloc: Global, bytes: &[u8]) -> Result<(TableColumn, &[u8]), Re
 fn values_times(alloc: Global, count: u8, bytes: &[u8]) -> Result<(Values, &[u8]), ReadFault>
     ensures { Gives (λ x. (x.0, x.1.now)) result (times value count bytes.now) }
 {
-    let mut values = Values::new(alloc);
+    let mut values = Values::with_capacity(alloc, usize::from(count))?;
     let mut rest = bytes;
     for _ in 0..count {
         let (value, after) = value_of(alloc, rest)?;

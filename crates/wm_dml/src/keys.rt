@@ -10,8 +10,9 @@ use wm_spec::record::Table;
 pub fn row_key(alloc: Global, table: &Table, row: &[Value]) -> Result<Key, Memory>
     ensures { IfOk result (λ key. key ≡ key_of_row table.now row.now) }
 {
-    let mut key = Values::new(alloc);
-    for place in table.key_columns.as_slice() {
+    let places = table.key_columns.as_slice();
+    let mut key = Values::with_capacity(alloc, places.len())?;
+    for place in places {
         match row.get(usize::from(*place)) {
             Some(value) => key.push(value.copy(alloc)?)?,
             None => return Ok(Key::from_values(Values::new(alloc))),

@@ -46,7 +46,7 @@ fn values_of(alloc: Global, exprs: &[Expr]) -> Result<Vec<Value>, ValueFault>
     ensures ok { IfOk result (λ made. all_values (exprs_view exprs.now) ≡ Some made.items) }
     ensures out_of_range { IsErrOf result ValueFault.OutOfRange → all_values (exprs_view exprs.now) ≡ None }
 {
-    let mut made = Vec::new(alloc);
+    let mut made = Vec::with_capacity(alloc, exprs.len()).map_err(|_| ValueFault::Memory)?;
     for expr in exprs {
         let one = value_alone(alloc, expr)?;
         made.push(one).map_err(|_| ValueFault::Memory)?;
@@ -85,7 +85,7 @@ fn arranged(
 ) -> Result<Vec<Value>, Memory>
     ensures { IfOk result (λ row. row.items ≡ map (λ (c : ColumnOf). named_value names.now values.now c.name) columns.now) }
 {
-    let mut row = Vec::new(alloc);
+    let mut row = Vec::with_capacity(alloc, columns.len())?;
     for column in columns {
         let value = value_at(alloc, values, place_of(&column.name, names))?;
         row.push(value)?;
