@@ -1,5 +1,5 @@
 //! The ids of a page's slots.
-ghost use Rattle.std.specs.Prelude.{◌≡◌, ◌∷◌, [], ◌++◌, length, IfOk, OnOk, OnErr};
+ghost use Rattle.std.specs.Prelude.{◌≡◌, IfOk};
 ghost use Rattle.wm_heap.specs.Places.{ids_of};
 
 use crate::slot::Slot;
@@ -22,27 +22,11 @@ impl Model for Ids {
 }
 
 impl Ids {
-    /// No ids.
-    pub fn new(alloc: Global) -> Ids
-        ensures { result ≡ [] }
-    {
-        Ids {
-            list: Vec::new(alloc),
-        }
-    }
-
+    /// The ids, in order.
     pub fn as_slice(&self) -> &[u64]
         ensures { result.now ≡ self.now }
     {
         self.list.as_slice()
-    }
-
-    pub fn push(&mut self, id: u64) -> Result<(), Memory>
-        ensures ok { OnOk result (self.new ≡ self.old ++ id ∷ []) }
-        ensures err { OnErr result (self.new ≡ self.old) }
-    {
-        self.list.push(id)?;
-        Ok(())
     }
 }
 
@@ -50,9 +34,9 @@ impl Ids {
 pub fn ids_of_slots(alloc: Global, slots: &[Slot]) -> Result<Ids, Memory>
     ensures { IfOk result (λ ids. ids ≡ ids_of slots.now) }
 {
-    let mut ids = Ids::new(alloc);
+    let mut list = Vec::with_capacity(alloc, slots.len())?;
     for slot in slots {
-        ids.push(slot.id)?;
+        list.push(slot.id)?;
     }
-    Ok(ids)
+    Ok(Ids { list })
 }

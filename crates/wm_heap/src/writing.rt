@@ -46,7 +46,8 @@ pub fn write_slots(alloc: Global, slots: &Slots) -> Result<Bytes, Memory>
     ensures size { IfOk result (λ page. length page ≡ 4096) }
     ensures again { OnOk result (slots_of (page_of slots.now) ≡ Some slots.now) }
 {
-    let mut page = Bytes::new(alloc);
+    let room = Vec::with_capacity(alloc, PAGE_SIZE)?;
+    let mut page = Bytes::from_vec(room);
     put_u16(&mut page, slots.len() as u16)?;
     put_each_slot(&mut page, slots.as_slice())?;
     let zeros = [0; PAGE_SIZE];

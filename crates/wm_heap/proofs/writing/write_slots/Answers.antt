@@ -18,13 +18,13 @@ put_each_slot-requires c = subst (AllByRecursion slot.CanSpell) (sym c.as_slice.
 pub slice_bounds-zeros-count : goal.slice_bounds-zeros-count
 slice_bounds-zeros-count c =
     let fits = filled_fits c.args.slots.now _ c.put_u16.new.into c.put_each_slot.new.into c.len.result
-    c.new-page.ensures c.in_ok-put_u16.ensures.is c.len.ensures (c.in_ok-put_each_slot.ensures.is ∙ ap (λ slots. c.put_u16.new.into ++ flat_map slot.spell slots) c.as_slice.ensures) c.requires in
+    (c.from_vec-page.ensures ∙ c.in_ok-room.ensures.items) c.in_ok-put_u16.ensures.is c.len.ensures (c.in_ok-put_each_slot.ensures.is ∙ ap (λ slots. c.put_u16.new.into ++ flat_map slot.spell slots) c.as_slice.ensures) c.requires in
     omega arith
 
 pub returns : goal.returns
 returns c =
     let page_is = is_page c.args.slots.now _ c.put_u16.new.into c.put_each_slot.new.into c.append.new.self _ c.len.result c.len-2.result
-    c.new-page.ensures c.in_ok-put_u16.ensures.is c.len.ensures (c.in_ok-put_each_slot.ensures.is ∙ ap (λ slots. c.put_u16.new.into ++ flat_map slot.spell slots) c.as_slice.ensures)
+    (c.from_vec-page.ensures ∙ c.in_ok-room.ensures.items) c.in_ok-put_u16.ensures.is c.len.ensures (c.in_ok-put_each_slot.ensures.is ∙ ap (λ slots. c.put_u16.new.into ++ flat_map slot.spell slots) c.as_slice.ensures)
     c.len-2.ensures.value (let room : 4096 - c.len-2.result ≤ 4096 = omega arith in take-replicate (4096 - c.len-2.result) 4096 0 room) c.in_ok-append.ensures.ok in
     record {
       page = page_is;
