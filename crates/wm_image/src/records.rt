@@ -1,6 +1,6 @@
 //! Records under their ids, with the index of them, changed one by one and by batches.
 
-ghost use Rattle.std.specs.Prelude.{◌≡◌, ℕ, [], false, IfOk, OnOk};
+ghost use Rattle.std.specs.Prelude.{◌≡◌, [], false, IfOk, OnOk};
 ghost use Rattle.wm_chunks.specs.Numbers.{AreOrdered, Numbers};
 ghost use Rattle.wm_graph.specs.Parts.{parts_of};
 ghost use Rattle.wm_state.specs.ById.{applied, set_at};

@@ -1,5 +1,5 @@
 -- The ids of rows, by stamp, when those of one stamp change.
-use Rattle.std.proofs.Common.{◌≡◌, ◌≢◌, ℕ, ◌==◌, Bool, true, false, cond, List, [], ◌∷◌, Option, Some, None, refl, sym, ap, ◌∙◌, ◌⊎◌, inl, inr}
+use Rattle.std.proofs.Common.{◌≡◌, ◌≢◌, ℕ, ◌==◌, true, false, cond, List, [], ◌∷◌, Option, Some, None, refl, sym, ap, ◌∙◌, ◌⊎◌, inl, inr}
 use Rattle.std.proofs.lemmas.Bool.{cases_eq, eq-eqb, ne_eqb}
 use Rattle.std.specs.BTreeMap.{is_at}
 use Rattle.std.specs.List.Sorted.{IsStrictlySortedBy}
@@ -92,11 +92,3 @@ several_told change stamp old new was same ids =
     (λ q apart.
     ap (λ m. one_or (value_at m.entries q) (ids_in nat_cmp new.several.entries q)) same
     ∙ ap (one_or (value_at old.one.entries q)) (ids q ∙ ap (λ b. cond b (change (ids_in nat_cmp old.several.entries stamp)) (ids_in nat_cmp old.several.entries q)) (at_away stamp q apart)))
-
--- another id goes from under a stamp that has one alone
-pub other_told : (id other stamp : ℕ) (old : RowIds) → value_at old.one.entries stamp ≡ Some other → other ≢ id → Changes (without id) stamp old old
-other_told id other stamp old was apart =
-    told (without id) stamp old old
-    (ap (λ w. one_or w (ids_in nat_cmp old.several.entries stamp)) was
-    ∙ sym (ap (λ w. without id (one_or w (ids_in nat_cmp old.several.entries stamp))) was ∙ ap (λ b. cond b [] (other ∷ [])) (ne_eqb other id apart)))
-    (λ q away. refl)

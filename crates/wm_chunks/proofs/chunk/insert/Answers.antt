@@ -1,4 +1,4 @@
-use Rattle.std.proofs.Common.{◌≡◌, ℕ, ◌+◌, ◌*◌, ◌/◌, List, Some, refl, sym, ap, subst, ◌∙◌, arith}
+use Rattle.std.proofs.Common.{ℕ, ◌+◌, ◌*◌, ◌/◌, Some, refl, sym, ap, subst, ◌∙◌, arith}
 use Rattle.std.proofs.Math.ListN.{set}
 use Rattle.wm_chunks.proofs.Placing.{insert_rises, insert_told, number_there, set_rises, set_told, value_none, value_there, within_from}
 use Rattle.wm_chunks.specs.Numbers.{FitsAt, Sets, StandsAt}

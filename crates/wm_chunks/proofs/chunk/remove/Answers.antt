@@ -1,4 +1,4 @@
-use Rattle.std.proofs.Common.{◌≡◌, ℕ, ◌+◌, ◌*◌, ◌/◌, List, None, Some, sym, ap, subst, ◌∙◌}
+use Rattle.std.proofs.Common.{ℕ, ◌+◌, ◌*◌, ◌/◌, None, Some, sym, ap, subst, ◌∙◌}
 use Rattle.wm_chunks.proofs.Placing.{gone_told, remove_rises, remove_told, value_none, value_there, within_from}
 use Rattle.wm_chunks.specs.Numbers.{FitsAt, Sets, StandsAt}
 use Rattle.wm_chunks.proofs.chunk.remove.Goals as goal

@@ -1,4 +1,4 @@
-use Rattle.std.proofs.Common.{◌≡◌, ℕ, ◌*◌, ◌+◌, ◌/◌, ◌++◌, [], ◌∷◌, Some, ap, ◌∙◌, arith}
+use Rattle.std.proofs.Common.{◌≡◌, ℕ, ◌+◌, ◌/◌, ◌++◌, [], ◌∷◌, Some, ap, ◌∙◌, arith}
 use Rattle.wm_chunks.proofs.Joining.{set_chunks, set_told}
 use Rattle.wm_chunks.proofs.Placing.{one_told}
 use Rattle.wm_chunks.proofs.number_map.begin_chunk.Goals as goal

@@ -1,8 +1,5 @@
-use Rattle.std.proofs.Common.{◌≡◌, ◌/◌, Some, sym, ap, subst, ◌∙◌}
-use Rattle.std.specs.BTreeMap.{is_at}
-use Rattle.std.specs.Map.{lookup}
+use Rattle.std.proofs.Common.{sym, ap, ◌∙◌}
 use Rattle.std.specs.Option.{option_copied}
-use Rattle.std.specs.Ordering.{nat_cmp}
 use Rattle.wm_chunks.proofs.Joining.{found_in, found_none}
 use Rattle.wm_chunks.specs.Numbers.{value_at}
 use Rattle.wm_chunks.proofs.number_map.find.Goals as goal

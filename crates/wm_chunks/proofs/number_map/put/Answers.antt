@@ -1,11 +1,11 @@
-use Rattle.std.proofs.Common.{◌≡◌, ℕ, ◌+◌, ◌*◌, ◌/◌, ◌<◌, ◌≤◌, List, [], length, None, Some, refl, sym, ap, subst, ◌∙◌, arith}
+use Rattle.std.proofs.Common.{◌≡◌, ◌/◌, ◌<◌, length, Some, refl, sym, ap, ◌∙◌, arith}
 use Rattle.std.proofs.lemmas.Result.{IfOk-weaker, on_err_weaker, on_ok_weaker}
 use Rattle.std.specs.BTreeMap.{is_at}
 use Rattle.std.specs.Map.{lookup}
 use Rattle.std.specs.Option.{option_copied_mut}
 use Rattle.std.specs.Ordering.{nat_cmp}
 use Rattle.wm_chunks.proofs.Joining.{Changes, changed_values, found_in, found_none, joined_kept, set_chunks}
-use Rattle.wm_chunks.specs.Numbers.{AreChunks, Sets, entries_found, joined, value_at}
+use Rattle.wm_chunks.specs.Numbers.{AreChunks, entries_found, joined}
 use Rattle.wm_chunks.proofs.number_map.put.Given as given
 use Rattle.wm_chunks.proofs.number_map.put.Goals as goal
 

@@ -2,7 +2,7 @@ use Rattle.std.proofs.Common.{Some, refl, sym, ap, ◌∙◌, subst}
 use Rattle.std.proofs.lemmas.Result.{on_ok_weaker}
 use Rattle.std.specs.List.Sorted.{IsStrictlySortedBy}
 use Rattle.std.specs.Ordering.{nat_cmp}
-use Rattle.wm_index.proofs.RowLists.{other_told, several_told}
+use Rattle.wm_index.proofs.RowLists.{several_told}
 use Rattle.wm_index.specs.Rows.{one_or}
 use Rattle.wm_index.specs.Sought.{ids_in, without}
 use Rattle.wm_index.specs.declared.rows.RowIds.{RowIds}
