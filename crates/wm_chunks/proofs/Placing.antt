@@ -1,8 +1,10 @@
 -- Numbers that ascend: one is sought, and its value is set or taken out.
-use Rattle.std.proofs.Common.{◌≡◌, ◌≢◌, ℕ, zero, suc, ◌<◌, ◌≤◌, ◌+◌, ◌-◌, Bool, true, false, cond, eqb, List, [], ◌∷◌, length, get_or, insert, remove, Option, Some, None, is_some, IsSome, IfNone, IfSome, Result, Ok, Err, IfOk, IfErr, refl, sym, ap, subst, ◌∙◌, ◌⊎◌, inl, inr, arith}
+use Rattle.std.proofs.Common.{◌≡◌, ◌≢◌, ℕ, zero, suc, ◌<◌, ◌≤◌, ◌+◌, ◌-◌, Bool, true, false, cond, List, [], ◌∷◌, length, get_or, insert, remove, Option, Some, None, is_some, IsSome, IfNone, IfSome, Result, Ok, Err, IfOk, IfErr, refl, sym, ap, subst, ◌∙◌, ◌⊎◌, inl, inr, arith}
 use Rattle.std.proofs.Math.ListN.{set}
-use Rattle.std.proofs.lemmas.Bool.{cases_lt, cases_eq, eq-eqb, ne_eqb, lt-ltb, le-ltb}
+use Rattle.std.proofs.lemmas.Bool.{cases_lt, cases_eq}
+use Rattle.std.proofs.lemmas.Cmp.{ranked}
 use Rattle.std.specs.BTreeMap.{is_at}
+use Rattle.std.specs.Cmp.{nat_cmp_is}
 use Rattle.std.specs.List.{AllByRecursion}
 use Rattle.std.specs.List.Sorted.{IsBinarySearchResult, IsNonDecreasingBy, IsPartitionPoint, IsSearchInRange, IsStrictlySortedBy}
 use Rattle.std.specs.Map.{keys_of}
@@ -14,60 +16,17 @@ use Rattle.wm_chunks.specs.Numbers.{AreOrdered, FitsAt, RiseFrom, RiseWithin, Se
 -- ---- the order of numbers
 
 less_is : (m n : ℕ) → m < n → nat_cmp m n ≡ Less
-less_is m n lt = ap (λ b. cond b Less (cond (eqb m n) Equal Greater)) (lt-ltb m n lt)
-
-equal_is : (m n : ℕ) → m ≡ n → nat_cmp m n ≡ Equal
-equal_is m n same = ap (λ b. cond b Less (cond (eqb m n) Equal Greater)) (le-ltb m n (omega (arith, same))) ∙ ap (λ b. cond b Equal Greater) (eq-eqb m n same)
+less_is m n less = sym (nat_cmp_is m n Less less)
 
 greater_is : (m n : ℕ) → n < m → nat_cmp m n ≡ Greater
-greater_is m n lt =
-    ap (λ b. cond b Less (cond (eqb m n) Equal Greater)) (le-ltb m n (omega (arith, lt))) ∙ ap (λ b. cond b Equal Greater) (ne_eqb m n (λ e. absurd (omega (arith, lt, e))))
+greater_is m n more = sym (nat_cmp_is m n Greater more)
 
 pub less_than : (m n : ℕ) → nat_cmp m n ≡ Less → m < n
-less_than m n e = by_place (cases_lt m n) (cases_eq m n)
-  where
-    equal_less : (o : Ordering) → o ≡ Equal → o ≡ Less → ⊥
-    equal_less o a b = cc
-
-    greater_less : (o : Ordering) → o ≡ Greater → o ≡ Less → ⊥
-    greater_less o a b = cc
-
-    by_place : (m < n) ⊎ (n ≤ m) → (m ≡ n) ⊎ (m ≢ n) → m < n
-    by_place (inl less) other = less
-    by_place (inr le) (inl same) = absurd (equal_less (nat_cmp m n) (equal_is m n same) e)
-    by_place (inr le) (inr apart) = absurd (greater_less (nat_cmp m n) (greater_is m n (omega (arith, le, apart))) e)
-
-greater_than : (m n : ℕ) → nat_cmp m n ≡ Greater → n < m
-greater_than m n e = by_place (cases_lt n m) (cases_eq m n)
-  where
-    less_greater : (o : Ordering) → o ≡ Less → o ≡ Greater → ⊥
-    less_greater o a b = cc
-
-    equal_greater : (o : Ordering) → o ≡ Equal → o ≡ Greater → ⊥
-    equal_greater o a b = cc
-
-    by_place : (n < m) ⊎ (m ≤ n) → (m ≡ n) ⊎ (m ≢ n) → n < m
-    by_place (inl less) other = less
-    by_place (inr le) (inl same) = absurd (equal_greater (nat_cmp m n) (equal_is m n same) e)
-    by_place (inr le) (inr apart) = absurd (less_greater (nat_cmp m n) (less_is m n (omega (arith, le, apart))) e)
-
-same_than : (m n : ℕ) → nat_cmp m n ≡ Equal → m ≡ n
-same_than m n e = by_place (cases_lt m n) (cases_lt n m)
-  where
-    less_equal : (o : Ordering) → o ≡ Less → o ≡ Equal → ⊥
-    less_equal o a b = cc
-
-    greater_equal : (o : Ordering) → o ≡ Greater → o ≡ Equal → ⊥
-    greater_equal o a b = cc
-
-    by_place : (m < n) ⊎ (n ≤ m) → (n < m) ⊎ (m ≤ n) → m ≡ n
-    by_place (inl less) other = absurd (less_equal (nat_cmp m n) (less_is m n less) e)
-    by_place (inr ge) (inl more) = absurd (greater_equal (nat_cmp m n) (greater_is m n more) e)
-    by_place (inr ge) (inr le) = omega (arith, ge, le)
+less_than m n e = ranked m n Less (sym e)
 
 -- the test for a number
 pub is_at-same : (m n : ℕ) → m ≡ n → is_at (nat_cmp m) n ≡ true
-is_at-same m n same = ap is_eq (equal_is m n same)
+is_at-same m n same = ap is_eq (sym (nat_cmp_is m n Equal same))
 
 pub is_at-less : (m n : ℕ) → m < n → is_at (nat_cmp m) n ≡ false
 is_at-less m n less = ap is_eq (less_is m n less)
@@ -139,10 +98,10 @@ some_cond : {V : Type 0} (b : Bool) (x : V) (o : Option V) → IsSome o → IsSo
 some_cond true x o some = refl
 some_cond false x o some = some
 
-pub last_there : {V : Type 0} (es : List (ℕ × V)) (k : ℕ) → last_number es ≡ Some k → IsSome (value_at es k)
-last_there [] k is = cc
-last_there {V} (e ∷ []) k is = ap (λ (o : Option V). is_some o) (value-same e [] k (some_same e.0 k is))
-last_there (e ∷ f ∷ es) k is = some_cond (is_at (nat_cmp k) e.0) e.1 (value_at (f ∷ es) k) (last_there (f ∷ es) k is)
+pub last_valued : {V : Type 0} (es : List (ℕ × V)) (k : ℕ) → last_number es ≡ Some k → IsSome (value_at es k)
+last_valued [] k is = cc
+last_valued {V} (e ∷ []) k is = ap (λ (o : Option V). is_some o) (value-same e [] k (some_same e.0 k is))
+last_valued (e ∷ f ∷ es) k is = some_cond (is_at (nat_cmp k) e.0) e.1 (value_at (f ∷ es) k) (last_valued (f ∷ es) k is)
 
 last_low : {V : Type 0} (low : ℕ) (es : List (ℕ × V)) (k : ℕ) → RiseFrom low es → last_number es ≡ Some k → low ≤ k
 last_low low [] k up is = cc
@@ -164,12 +123,12 @@ last_none (e ∷ f ∷ es) is = let none : f ∷ es ≡ [] = last_none (f ∷ es
 -- what the greatest number tells
 pub record TellsLast {V : Type 0} (es : List (ℕ × V)) (r : Option ℕ) : Type 0 where
   pub none : IfNone r (es ≡ [])
-  pub there : IfSome r (λ k. IsSome (value_at es k))
+  pub valued : IfSome r (λ k. IsSome (value_at es k))
   pub greatest : IfSome r (λ k. (q : ℕ) → k < q → value_at es q ≡ None)
 
 pub last_told : {V : Type 0} (low : ℕ) (es : List (ℕ × V)) (r : Option ℕ) → RiseFrom low es → r ≡ last_number es → TellsLast es r
-last_told low es None up is = record { none = last_none es (sym is); there = tt; greatest = tt }
-last_told low es (Some k) up is = record { none = tt; there = last_there es k (sym is); greatest = last_greatest low es k up (sym is) }
+last_told low es None up is = record { none = last_none es (sym is); valued = tt; greatest = tt }
+last_told low es (Some k) up is = record { none = tt; valued = last_valued es k (sym is); greatest = last_greatest low es k up (sym is) }
 
 -- it stands last
 pub last_at : {V : Type 0} (es : List (ℕ × V)) (i : ℕ) (d : ℕ × V) → i + 1 ≡ length es → last_number es ≡ Some (get_or es i d).0
@@ -244,26 +203,26 @@ fits_behind low (e ∷ es) n (suc last) d up is less =
 -- where it stands, or where it may be put
 pub found_entry : {V : Type 0} (low : ℕ) (es : List (ℕ × V)) (n : ℕ) (r : Result ℕ ℕ) → RiseFrom low es → IsSearchInRange r (length es) → IsBinarySearchResult (λ (e : ℕ × V). nat_cmp e.0 n) es r → IfOk r (λ i. StandsAt n es i)
 found_entry low [] n (Ok i) up within equal = absurd (omega (arith, within))
-found_entry low (e ∷ es) n (Ok i) up within equal = stands_from low (e ∷ es) n i e up within (same_than (get_or (e ∷ es) i e).0 n (equal e))
+found_entry low (e ∷ es) n (Ok i) up within equal = stands_from low (e ∷ es) n i e up within (ranked (get_or (e ∷ es) i e).0 n Equal (sym (equal e)))
 found_entry low es n (Err i) up within equal = tt
 
 pub fitting_entry : {V : Type 0} (low : ℕ) (es : List (ℕ × V)) (n : ℕ) (r : Result ℕ ℕ) → RiseFrom low es → IsSearchInRange r (length es) → IsBinarySearchResult (λ (e : ℕ × V). nat_cmp e.0 n) es r → IfErr r (λ i. FitsAt n es i)
 fitting_entry low es n (Ok i) up within point = tt
 fitting_entry {V} low es n (Err i) up within point =
     let parts : IsPartitionPoint (λ (e : ℕ × V). nat_cmp e.0 n ≡ Less) (λ (e : ℕ × V). nat_cmp e.0 n ≡ Greater) es i = point (search_rises low es n up) in
-    fits_from es n i within (λ k d less. less_than (get_or es k d).0 n (parts.0 k d (omega arith) less)) (λ k d le less. greater_than (get_or es k d).0 n (parts.1 k d le less))
+    fits_from es n i within (λ k d less. less_than (get_or es k d).0 n (parts.0 k d (omega arith) less)) (λ k d le less. ranked (get_or es k d).0 n Greater (sym (parts.1 k d le less)))
 
 -- ---- what it has
 
-pub number_there : {V : Type 0} (es : List (ℕ × V)) (n i : ℕ) (d : ℕ × V) → StandsAt n es i → (get_or es i d).0 ≡ n
-number_there [] n i d stands = absurd stands
-number_there (e ∷ es) n zero d stands = stands
-number_there (e ∷ es) n (suc i) d stands = number_there es n i d stands.1
+pub number_standing : {V : Type 0} (es : List (ℕ × V)) (n i : ℕ) (d : ℕ × V) → StandsAt n es i → (get_or es i d).0 ≡ n
+number_standing [] n i d stands = absurd stands
+number_standing (e ∷ es) n zero d stands = stands
+number_standing (e ∷ es) n (suc i) d stands = number_standing es n i d stands.1
 
-pub value_there : {V : Type 0} (es : List (ℕ × V)) (n i : ℕ) (d : ℕ × V) → StandsAt n es i → value_at es n ≡ Some (get_or es i d).1
-value_there [] n i d stands = absurd stands
-value_there (e ∷ es) n zero d stands = value-same e es n stands
-value_there (e ∷ es) n (suc i) d stands = value-apart e es n (λ same. let less = stands.0 in omega (arith, less, same)) ∙ value_there es n i d stands.1
+pub value_standing : {V : Type 0} (es : List (ℕ × V)) (n i : ℕ) (d : ℕ × V) → StandsAt n es i → value_at es n ≡ Some (get_or es i d).1
+value_standing [] n i d stands = absurd stands
+value_standing (e ∷ es) n zero d stands = value-same e es n stands
+value_standing (e ∷ es) n (suc i) d stands = value-apart e es n (λ same. let less = stands.0 in omega (arith, less, same)) ∙ value_standing es n i d stands.1
 
 pub value_none : {V : Type 0} (low : ℕ) (es : List (ℕ × V)) (n i : ℕ) → FitsAt n es i → RiseFrom low es → value_at es n ≡ None
 value_none low [] n i fits up = refl

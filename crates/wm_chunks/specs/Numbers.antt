@@ -47,7 +47,7 @@ module _ {V : Type 0} where
   RiseWithin low high [] = low ≤ high
   RiseWithin low high (e ∷ es) = (low ≤ e.0) × RiseWithin (e.0 + 1) high es
 
-  -- they are those of a chunk
+  -- they are those of a chunk, which has `WIDTH` of src/chunk.rt
   abbrev pub IsChunk : ℕ → List (ℕ × V) → Type 0
   IsChunk place es = RiseWithin (place * 32) (place * 32 + 32) es
 

@@ -25,7 +25,7 @@ fn search<V>(chunk: &[(u64, V)], number: u64) -> Result<usize, usize>
 fn stands_at<V>(chunk: &[(u64, V)], number: u64, place: usize) -> bool
     requires { IsChunk (number / 32) chunk.now }
     ensures within { result ≡ true → place < length chunk.now }
-    ensures there { result ≡ true → StandsAt number chunk.now place }
+    ensures stands { result ≡ true → StandsAt number chunk.now place }
 {
     place < chunk.len() && chunk[place].0 == number
 }

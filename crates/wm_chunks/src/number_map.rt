@@ -137,7 +137,7 @@ impl<V> NumberMap<V> {
     /// The greatest number.
     pub fn last_number(&self) -> Option<u64>
         ensures none { IfNone result (self.now.entries ≡ []) }
-        ensures there { IfSome result (λ last. IsSome (value_at self.now.entries last)) }
+        ensures valued { IfSome result (λ last. IsSome (value_at self.now.entries last)) }
         ensures greatest { IfSome result (λ last. (q : ℕ) → last < q → value_at self.now.entries q ≡ None) }
     {
         greatest(&self.chunks)

@@ -1,9 +1,9 @@
 use Rattle.std.proofs.Common.{ℕ, ◌+◌, ◌*◌, ◌/◌, sym}
-use Rattle.wm_chunks.proofs.Placing.{value_none, value_there, within_from}
+use Rattle.wm_chunks.proofs.Placing.{value_none, value_standing, within_from}
 use Rattle.wm_chunks.proofs.chunk.get.Goals as goal
 
 pub returns-in-Ok : goal.returns-in-Ok
-returns-in-Ok g c = sym (value_there c.args.chunk.now c.args.number c.in-Ok.place c.index-chunk-place.result c.in-Ok.ensures.found)
+returns-in-Ok g c = sym (value_standing c.args.chunk.now c.args.number c.in-Ok.place c.index-chunk-place.result c.in-Ok.ensures.found)
 
 pub returns-in-Err : goal.returns-in-Err
 returns-in-Err g c =

@@ -1,11 +1,11 @@
 use Rattle.std.proofs.Common.{ℕ, ◌+◌, ◌*◌, ◌/◌, None, Some, sym, ap, subst, ◌∙◌}
-use Rattle.wm_chunks.proofs.Placing.{gone_told, remove_rises, remove_told, value_none, value_there, within_from}
+use Rattle.wm_chunks.proofs.Placing.{gone_told, remove_rises, remove_told, value_none, value_standing, within_from}
 use Rattle.wm_chunks.specs.Numbers.{FitsAt, Sets, StandsAt}
 use Rattle.wm_chunks.proofs.chunk.remove.Goals as goal
 
 pub returns-in-Ok-clause-old : goal.returns-in-Ok-clause-old
 returns-in-Ok-clause-old g c =
-    sym (value_there c.args.chunk.now.items c.args.number c.in-Ok.place c.remove.result (subst (λ es. StandsAt c.args.number es c.in-Ok.place) c.as_slice.ensures.value c.in-Ok.ensures.found)
+    sym (value_standing c.args.chunk.now.items c.args.number c.in-Ok.place c.remove.result (subst (λ es. StandsAt c.args.number es c.in-Ok.place) c.as_slice.ensures.value c.in-Ok.ensures.found)
     ∙ ap (λ e. Some e.1) (sym c.remove.ensures.value))
 
 pub returns-in-Ok-clause-sets : goal.returns-in-Ok-clause-sets

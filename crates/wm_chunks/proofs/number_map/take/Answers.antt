@@ -24,16 +24,16 @@ returns-then-is_empty-clause-old g c =
 
 pub returns-then-is_empty-clause-chunks : goal.returns-then-is_empty-clause-chunks
 returns-then-is_empty-clause-chunks g c =
-    let there : lookup (is_at (nat_cmp (c.args.number / 32))) c.args.chunks.now.entries ≡ Some c.in-Some.chunk.now = sym c.get_mut.ensures.value ∙ ap option_copied_mut c.in-Some.is in
+    let found : lookup (is_at (nat_cmp (c.args.number / 32))) c.args.chunks.now.entries ≡ Some c.in-Some.chunk.now = sym c.get_mut.ensures.value ∙ ap option_copied_mut c.in-Some.is in
     drop_chunks c.args.chunks.now.entries c.remove.new.self.entries (c.args.number / 32) c.requires c.remove.ensures.ordered
-    (changes_twice c.args.chunks.now.entries (c.get_mut.follows.lender c.remove-old.new.chunk).entries c.remove.new.self.entries (c.args.number / 32) (Some c.remove-old.new.chunk) None ((c.get_mut.follows.holds c.remove-old.new.chunk).3 (rw there refl)).0 c.remove.ensures.updates.0)
+    (changes_twice c.args.chunks.now.entries (c.get_mut.follows.lender c.remove-old.new.chunk).entries c.remove.new.self.entries (c.args.number / 32) (Some c.remove-old.new.chunk) None ((c.get_mut.follows.holds c.remove-old.new.chunk).3 (rw found refl)).0 c.remove.ensures.updates.0)
 
 pub returns-then-is_empty-clause-sets : goal.returns-then-is_empty-clause-sets
 returns-then-is_empty-clause-sets g c =
-    let there : lookup (is_at (nat_cmp (c.args.number / 32))) c.args.chunks.now.entries ≡ Some c.in-Some.chunk.now = sym c.get_mut.ensures.value ∙ ap option_copied_mut c.in-Some.is in
+    let found : lookup (is_at (nat_cmp (c.args.number / 32))) c.args.chunks.now.entries ≡ Some c.in-Some.chunk.now = sym c.get_mut.ensures.value ∙ ap option_copied_mut c.in-Some.is in
     drop_told c.args.chunks.now.entries c.remove.new.self.entries c.args.number c.requires c.remove.ensures.ordered
-    (changes_twice c.args.chunks.now.entries (c.get_mut.follows.lender c.remove-old.new.chunk).entries c.remove.new.self.entries (c.args.number / 32) (Some c.remove-old.new.chunk) None ((c.get_mut.follows.holds c.remove-old.new.chunk).3 (rw there refl)).0 c.remove.ensures.updates.0)
-    (rw there (subst (Sets c.args.number None c.in-Some.chunk.now.items) (none_left c.remove-old.new.chunk c.is_empty.result c.is_empty.ensures c.if-is_empty.true) c.remove-old.ensures.sets))
+    (changes_twice c.args.chunks.now.entries (c.get_mut.follows.lender c.remove-old.new.chunk).entries c.remove.new.self.entries (c.args.number / 32) (Some c.remove-old.new.chunk) None ((c.get_mut.follows.holds c.remove-old.new.chunk).3 (rw found refl)).0 c.remove.ensures.updates.0)
+    (rw found (subst (Sets c.args.number None c.in-Some.chunk.now.items) (none_left c.remove-old.new.chunk c.is_empty.result c.is_empty.ensures c.if-is_empty.true) c.remove-old.ensures.sets))
 
 -- its chunk stays
 pub returns-else-is_empty-clause-old : goal.returns-else-is_empty-clause-old
@@ -42,13 +42,13 @@ returns-else-is_empty-clause-old g c =
 
 pub returns-else-is_empty-clause-chunks : goal.returns-else-is_empty-clause-chunks
 returns-else-is_empty-clause-chunks g c =
-    let there : lookup (is_at (nat_cmp (c.args.number / 32))) c.args.chunks.now.entries ≡ Some c.in-Some.chunk.now = sym c.get_mut.ensures.value ∙ ap option_copied_mut c.in-Some.is in
+    let found : lookup (is_at (nat_cmp (c.args.number / 32))) c.args.chunks.now.entries ≡ Some c.in-Some.chunk.now = sym c.get_mut.ensures.value ∙ ap option_copied_mut c.in-Some.is in
     set_chunks c.args.chunks.now.entries (c.get_mut.follows.lender c.remove-old.new.chunk).entries (c.args.number / 32) c.remove-old.new.chunk c.requires (c.get_mut.follows.holds c.remove-old.new.chunk).4 c.remove-old.ensures.chunk
-    (some_left c.remove-old.new.chunk c.is_empty.result c.is_empty.ensures c.if-is_empty.false) ((c.get_mut.follows.holds c.remove-old.new.chunk).3 (rw there refl)).0
+    (some_left c.remove-old.new.chunk c.is_empty.result c.is_empty.ensures c.if-is_empty.false) ((c.get_mut.follows.holds c.remove-old.new.chunk).3 (rw found refl)).0
 
 pub returns-else-is_empty-clause-sets : goal.returns-else-is_empty-clause-sets
 returns-else-is_empty-clause-sets g c =
-    let there : lookup (is_at (nat_cmp (c.args.number / 32))) c.args.chunks.now.entries ≡ Some c.in-Some.chunk.now = sym c.get_mut.ensures.value ∙ ap option_copied_mut c.in-Some.is in
+    let found : lookup (is_at (nat_cmp (c.args.number / 32))) c.args.chunks.now.entries ≡ Some c.in-Some.chunk.now = sym c.get_mut.ensures.value ∙ ap option_copied_mut c.in-Some.is in
     set_told c.args.chunks.now.entries (c.get_mut.follows.lender c.remove-old.new.chunk).entries c.args.number c.remove-old.new.chunk None c.requires (c.get_mut.follows.holds c.remove-old.new.chunk).4 c.remove-old.ensures.chunk
-    (some_left c.remove-old.new.chunk c.is_empty.result c.is_empty.ensures c.if-is_empty.false) ((c.get_mut.follows.holds c.remove-old.new.chunk).3 (rw there refl)).0
-    (rw there c.remove-old.ensures.sets)
+    (some_left c.remove-old.new.chunk c.is_empty.result c.is_empty.ensures c.if-is_empty.false) ((c.get_mut.follows.holds c.remove-old.new.chunk).3 (rw found refl)).0
+    (rw found c.remove-old.ensures.sets)

@@ -9,10 +9,10 @@ returns-clause-none g c =
     (subst (λ m. TellsLast m.entries c.greatest.result) c.self.view_is
     (last_told 0 (joined c.self.inside.chunks.entries) c.greatest.result (all_rise c.self.inside.chunks.entries c.self.invariant) c.greatest.ensures)).none
 
-pub returns-clause-there : goal.returns-clause-there
-returns-clause-there g c =
+pub returns-clause-valued : goal.returns-clause-valued
+returns-clause-valued g c =
     (subst (λ m. TellsLast m.entries c.greatest.result) c.self.view_is
-    (last_told 0 (joined c.self.inside.chunks.entries) c.greatest.result (all_rise c.self.inside.chunks.entries c.self.invariant) c.greatest.ensures)).there
+    (last_told 0 (joined c.self.inside.chunks.entries) c.greatest.result (all_rise c.self.inside.chunks.entries c.self.invariant) c.greatest.ensures)).valued
 
 pub returns-clause-greatest : goal.returns-clause-greatest
 returns-clause-greatest g c =
