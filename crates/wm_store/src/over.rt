@@ -1,5 +1,5 @@
 //! The heap over the pages of a station.
-ghost use Rattle.std.specs.Prelude.{◌≡◌, ℕ, ◌+◌, ◌*◌, ◌/◌, ◌<◌, ◌≤◌, ◌==◌, not, length, is_some, Ok, IfOk, IfErr, OnOk, IsErrOf};
+ghost use Rattle.std.specs.Prelude.{◌≡◌, ℕ, ◌+◌, ◌*◌, ◌/◌, ◌<◌, ◌≤◌, length, is_some, Ok, IfOk, IfErr, OnOk, IsErrOf};
 ghost use Rattle.wm_base.specs.declared.fault.OpenFault.TheVariants as opening;
 ghost use Rattle.wm_base.specs.declared.fault.StoreFault.TheVariants as storing;
 ghost use Rattle.wm_page.specs.Batch.{entries};
