@@ -1,5 +1,5 @@
 -- Ids by workspace and position: one put there, one taken out, and those of a workspace from a position on.
-use Rattle.std.proofs.Common.{◌≡◌, ◌≢◌, ℕ, ◌<◌, ◌≤◌, ◌==◌, nat_le, Bool, true, false, cond, ◌&&◌, List, [], ◌∷◌, ◌++◌, map, append_assoc, append-nil, refl, sym, ap, ap₂, subst, ◌∙◌, ◌⊎◌, inl, inr, arith}
+use Rattle.std.proofs.Common.{◌≡◌, ◌≢◌, ℕ, ◌<◌, ◌≤◌, ◌==◌, nat_le, Bool, true, false, cond, ◌&&◌, List, [], ◌∷◌, ◌++◌, map, append_assoc, append-nil, refl, sym, ap, ap₂, ◌∙◌, ◌⊎◌, inl, inr, arith}
 use Rattle.std.proofs.lemmas.Bool.{cases_lt, eq-eqb, eqb-true, ne_eqb}
 use Rattle.std.proofs.lemmas.List.Sums.{take_while-cons}
 use Rattle.std.proofs.lemmas.Map.Keys.{sorted_head, sorted_tail}
@@ -257,6 +257,3 @@ ahead_other space e left rest found all ahead is other =
     ∙ ap (λ (es : List Place). found ++ map (λ (d : Place). d.2) es) (sym (take_while-cons (λ (d : Place). d.0 == space) e rest ∙ ap (λ b. cond b (e ∷ take_while (λ (d : Place). d.0 == space) rest) []) (ne_eqb e.0 space other)))
     ∙ ap (λ (es : List Place). found ++ ids_ahead space es) (sym is)
     ∙ ahead
-
-pub ahead_end : (space : ℕ) (left : List Place) (found all : List ℕ) → found ++ ids_ahead space left ≡ all → left ≡ [] → found ≡ all
-ahead_end space left found all ahead is = sym (append-nil found) ∙ ap (λ (es : List Place). found ++ ids_ahead space es) (sym is) ∙ ahead

@@ -111,7 +111,7 @@ at_found space from id (e ∷ es) found = by_test (e.0 == space) refl (nat_le fr
       e.1,
       two,
       ap₂ (λ s p. has_id id (map (λ (d : Place). d.2) (cond (s && p) (e ∷ filter (is_there (space, e.1)) es) (filter (is_there (space, e.1)) es)))) one (eq-eqb e.1 e.1 refl)
-      ∙ ap (λ b. b || has_id id (ids_at_position es (space, e.1))) same,
+          ∙ ap (λ b. b || has_id id (ids_at_position es (space, e.1))) same,
     )
     by_id false other h one two rest = rest h
 

@@ -7,7 +7,10 @@ ghost use Rattle.wm_index.specs.Versioned.{AllNested, Gains, Loses};
 ghost use Rattle.wm_spec.specs.declared.record.Record.TheVariants as records;
 
 use crate::ids::{add_id, drop_id};
-use crate::keyed::{Ids, NumberIds, Positions, TableIds, add_at, add_in, add_on, add_to, drop_at, drop_from, drop_in, drop_on};
+use crate::keyed::{
+    Ids, NumberIds, Positions, TableIds, add_at, add_in, add_on, add_to, drop_at, drop_from,
+    drop_in, drop_on,
+};
 use crate::rows::{RowIds, add_row, drop_row, no_rows};
 use crate::sets::{IdSets, add_among, drop_among};
 use crate::versioned::{PieceIds, add_piece_id, drop_piece_id};

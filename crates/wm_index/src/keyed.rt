@@ -90,12 +90,7 @@ pub fn last_key<K: Ord>(map: &Ids<K>) -> Option<&K>
 }
 
 /// Puts an id at a position of a workspace.
-pub fn add_at(
-    places: &mut Positions,
-    space: u32,
-    position: u64,
-    id: u64,
-) -> Result<(), Memory>
+pub fn add_at(places: &mut Positions, space: u32, position: u64, id: u64) -> Result<(), Memory>
     ensures { OnOk result ((q : ℕ × ℕ) → ids_at_position places.new.keys q ≡ (if (space == q.0) && (position == q.1) then placed id (ids_at_position places.old.keys q) else ids_at_position places.old.keys q)) }
 {
     places.insert((space, position, id))?;

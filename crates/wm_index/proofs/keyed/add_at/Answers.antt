@@ -1,4 +1,4 @@
-use Rattle.std.proofs.Common.{List, cond, ◌==◌, ◌&&◌, ap, subst, ◌∙◌}
+use Rattle.std.proofs.Common.{List, ap, subst, ◌∙◌}
 use Rattle.std.specs.List.Sorted.{IsStrictlySortedBy}
 use Rattle.wm_index.proofs.Since.{Place, placed_more}
 use Rattle.wm_index.specs.Sought.{ids_at_position, triple_order}

@@ -1,5 +1,5 @@
 use Rattle.std.proofs.Common.{◌∙◌}
-use Rattle.wm_index.proofs.Since.{ahead_end, ahead_first, ahead_more, ahead_other}
+use Rattle.wm_index.proofs.Since.{ahead_first, ahead_more, ahead_other}
 use Rattle.wm_index.specs.Sought.{ids_since}
 use Rattle.wm_index.proofs.keyed.ids_since.Goals as goal
 
