@@ -1,5 +1,5 @@
 //! What a batch says, and how a journal keeps it.
-ghost use Rattle.std.specs.Prelude.{◌≡◌, ◌++◌, length, IfOk, OnOk};
+ghost use Rattle.std.specs.Prelude.{◌≡◌, ◌≤◌, ◌+◌, ◌-◌, ◌++◌, length, vec_len, replicate, IfOk, OnOk};
 ghost use Rattle.wm_page.specs.Batch.{entries};
 ghost use Rattle.wm_page.specs.Fields.{eight_bytes};
 ghost use Rattle.wm_journal.specs.Store.{count_after};
@@ -26,9 +26,20 @@ pub(crate) fn journal_bytes(alloc: Global, pages: &[PageWrite]) -> Result<Vec<u8
 {
     let mut bytes = Vec::new(alloc);
     put_numbers(&mut bytes, pages)?;
-    bytes.resize(pages.len().div_ceil(512) * PAGE_SIZE, 0)?;
+    put_zeros(&mut bytes, pages.len().div_ceil(512) * PAGE_SIZE)?;
     put_images(&mut bytes, pages)?;
     Ok(bytes)
+}
+
+// Puts zeros behind the bytes, fewer than a page has, until they are so many.
+fn put_zeros(bytes: &mut Vec<u8>, count: usize) -> Result<(), AllocError>
+    requires short { vec_len bytes.old ≤ count }
+    requires near { count ≤ vec_len bytes.old + 4096 }
+    ensures { OnOk result (bytes.new.items ≡ bytes.old.items ++ replicate (count - vec_len bytes.old) 0) }
+{
+    let zeros = [0; PAGE_SIZE];
+    bytes.extend_from_slice(&zeros[..count - bytes.len()])?;
+    Ok(())
 }
 
 // Puts the numbers of the pages behind the bytes.

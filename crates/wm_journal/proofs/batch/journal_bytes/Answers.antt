@@ -1,5 +1,4 @@
-use Rattle.std.proofs.Common.{◌≡◌, ℕ, ◌-◌, ◌*◌, List, [], ◌++◌, length, take, replicate, sym, ◌∙◌, ap, subst, arith}
-use Rattle.std.proofs.lemmas.List.{take_all}
+use Rattle.std.proofs.Common.{◌≡◌, ℕ, ◌+◌, ◌-◌, ◌*◌, ◌≤◌, List, [], ◌++◌, length, replicate, sym, ◌∙◌, ap, subst, arith}
 use Rattle.wm_page.proofs.Batches.{length-entries}
 use Rattle.wm_page.specs.Batch.{entries}
 use Rattle.wm_page.specs.declared.write.PageWrite.{PageWrite}
@@ -9,15 +8,33 @@ use Rattle.wm_journal.proofs.ReadBack.{length-numbers_of}
 use Rattle.wm_journal.proofs.batch.journal_bytes.Goals as goal
 
 -- the numbers, filled up to whole pages, and the images
-bytes_made : (es : List (ℕ × List ℕ)) (n size : ℕ) (numbers filled whole : List ℕ) → n ≡ length es → numbers ≡ [] ++ numbers_of es → size ≡ length numbers → filled ≡ take (directory_pages n * 4096) numbers ++ replicate (directory_pages n * 4096 - size) 0 → whole ≡ filled ++ images_of es → whole ≡ journal_bytes es
+bytes_made : (es : List (ℕ × List ℕ)) (n size : ℕ) (numbers filled whole : List ℕ) → n ≡ length es → numbers ≡ [] ++ numbers_of es → size ≡ length numbers → filled ≡ numbers ++ replicate (directory_pages n * 4096 - size) 0 → whole ≡ filled ++ images_of es → whole ≡ journal_bytes es
 unfolding journal_bytes
 bytes_made es n size numbers filled whole count first long second third =
     let eight : size ≡ length es * 8 = omega (arith, ap length first, length-numbers_of es) in
-    let all : take (directory_pages n * 4096) numbers ≡ numbers = take_all (directory_pages n * 4096) numbers (omega (arith, length-numbers_of es)) in
     let amount : directory_pages n * 4096 - size ≡ directory_pages (length es) * 4096 - length es * 8 = omega arith in
-    let pad : replicate (directory_pages n * 4096 - size) 0 ≡ replicate (directory_pages (length es) * 4096 - length es * 8) 0 = ap (λ (k : ℕ). replicate k 0) amount in
-    let base : take (directory_pages n * 4096) numbers ≡ numbers_of es = all ∙ first in
-    third ∙ ap (λ (l : List ℕ). l ++ images_of es) (second ∙ ap (λ (l : List ℕ). l ++ replicate (directory_pages n * 4096 - size) 0) base ∙ ap (λ (l : List ℕ). numbers_of es ++ l) pad)
+    third
+    ∙ ap (λ (l : List ℕ). l ++ images_of es)
+    (second
+    ∙ ap (λ (l : List ℕ). l ++ replicate (directory_pages n * 4096 - size) 0) first
+    ∙ ap (λ (k : ℕ). numbers_of es ++ replicate k 0) amount)
+
+-- eight bytes for each page are no more than their pages have, and leave less than one free
+numbers_size : (es : List (ℕ × List ℕ)) (n size : ℕ) (numbers : List ℕ) → n ≡ length es → numbers ≡ numbers_of es → size ≡ length numbers → (size ≤ directory_pages n * 4096) × (directory_pages n * 4096 ≤ size + 4096)
+numbers_size es n size numbers count are long =
+    let eight : size ≡ n * 8 = omega (arith, ap length are, length-numbers_of es) in
+    (omega arith, omega arith)
+
+pub put_zeros-requires : goal.put_zeros-requires
+put_zeros-requires c =
+    let pages : List PageWrite = c.args.pages.now in
+    let pages_taken : c.div_ceil.result ≡ directory_pages (length pages) = omega (arith, c.div_ceil.ensures) in
+    let numbers : List ℕ = c.put_numbers.new.bytes.items in
+    let sizes = numbers_size (entries pages) (length pages) c.put_numbers.new.bytes.len numbers (sym (length-entries pages)) (c.in_ok-put_numbers.ensures ∙ ap (λ (l : List ℕ). l ++ numbers_of (entries pages)) c.new-bytes.ensures.items) c.put_numbers.new.bytes.ok.0 in
+    record {
+      short = subst (λ (k : ℕ). c.put_numbers.new.bytes.len ≤ k * 4096) (sym pages_taken) sizes.0;
+      near = subst (λ (k : ℕ). k * 4096 ≤ c.put_numbers.new.bytes.len + 4096) (sym pages_taken) sizes.1;
+    }
 
 pub returns : goal.returns
 returns c =
@@ -29,6 +46,6 @@ returns c =
     let pages_taken : c.div_ceil.result ≡ directory_pages n = omega (arith, c.div_ceil.ensures) in
     let numbers_items : List ℕ = c.put_numbers.new.bytes.items in
     let long : size ≡ length numbers_items = c.put_numbers.new.bytes.ok.0 in
-    let filled : c.resize.new.self.items ≡ take (directory_pages n * 4096) numbers_items ++ replicate (directory_pages n * 4096 - size) 0 =
-    subst (λ (k : ℕ). c.resize.new.self.items ≡ take (k * 4096) numbers_items ++ replicate (k * 4096 - size) 0) pages_taken c.in_ok-resize.ensures.items in
-    bytes_made (entries pages) n size numbers_items c.resize.new.self.items c.put_images.new.bytes.items count numbers long filled c.in_ok-put_images.ensures
+    let filled : c.put_zeros.new.bytes.items ≡ numbers_items ++ replicate (directory_pages n * 4096 - size) 0 =
+    subst (λ (k : ℕ). c.put_zeros.new.bytes.items ≡ numbers_items ++ replicate (k * 4096 - size) 0) pages_taken c.in_ok-put_zeros.ensures in
+    bytes_made (entries pages) n size numbers_items c.put_zeros.new.bytes.items c.put_images.new.bytes.items count numbers long filled c.in_ok-put_images.ensures
