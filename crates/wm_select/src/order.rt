@@ -84,7 +84,10 @@ pub fn left_to_right(one: &[Value], other: &[Value]) -> Ordering
 {
     match one {
         [value, values @ ..] => match other {
-            [against, others @ ..] => ascending(value, against).then(left_to_right(values, others)),
+            [against, others @ ..] => match ascending(value, against) {
+                Ordering::Equal => left_to_right(values, others),
+                order => order,
+            },
             [] => Ordering::Greater,
         },
         [] => {
