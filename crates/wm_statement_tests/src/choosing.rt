@@ -15,7 +15,7 @@ use wm_rowtest::{Judge, RowTest};
 use wm_select::select;
 
 /// Whether each row fits the columns.
-fn all_fit(columns: &Columns, rows: &[Row]) -> bool
+pub fn all_fit(columns: &Columns, rows: &[Row]) -> bool
     ensures { result ≡ list_all (row_fits columns.now) rows.now }
 {
     rows.iter().all(|row| fits(columns, row))
@@ -46,12 +46,12 @@ pub fn chooses_first<F: Fn(&Row) -> Truth + Judge>(alloc: Global, test: &RowTest
 pub fn answers_first<F: Fn(&Row) -> Truth + Judge>(
     alloc: Global,
     query: &Query,
-    tables: &Listings,
+    tables: Listings,
     test: &RowTest<'_, F>,
 ) -> bool
     requires condition { cond_view test.now.cond.now ≡ where_is (filter_view query.now.filter) }
-    requires columns { test.now.columns.now ≡ all_columns tables.now }
-    requires fitting { do_fit tables.now ≡ true }
+    requires columns { test.now.columns.now ≡ all_columns tables }
+    requires fitting { do_fit tables ≡ true }
     requires lasting { items_last (projection_view query.now.projection) ≡ true }
 {
     match select(alloc, query, tables, test) {

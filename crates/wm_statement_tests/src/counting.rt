@@ -12,7 +12,7 @@ use wm_base::Memory;
 fn first_is_found(alloc: Global, calls: &Cell<u64>) -> Result<bool, Memory> {
     let tables = tables_of_bud(alloc)?;
     let query = ManuallyDrop::new(all_where(alloc, first(alloc)?));
-    Ok(finds_first(alloc, &query, &tables, calls))
+    Ok(finds_first(alloc, &query, tables, calls))
 }
 
 #[test]

@@ -1,26 +1,45 @@
 //! A test of a query's condition that counts its calls, and what is found by it.
-ghost use Rattle.std.specs.Prelude.{◌≡◌, true};
+ghost use Rattle.std.specs.Prelude.{◌≡◌, true, IfSome};
 ghost use Rattle.wm_base.specs.declared.row.Row.{Row as RowOf};
 ghost use Rattle.wm_base.specs.declared.truth.Truth.{Truth as TruthOf};
 ghost use Rattle.wm_base.specs.Views.{cond_view, filter_view, projection_view};
 ghost use Rattle.wm_spec.specs.Conditions.{typed as is_typed, fits, truth_of};
 ghost use Rattle.wm_select.specs.Query.{columns_of as all_columns, rows_fit as do_fit, where_of as where_is, projection_lasts as items_last};
 
-use crate::choosing::{answers_first, chooses_first};
+use crate::choosing::{all_fit, answers_first, chooses_first};
 use std::alloc::Global;
 use std::cell::Cell;
 use wm_base::tree::cond::Cond;
-use wm_base::tree::query::Query;
+use wm_base::tree::query::{Projection, Query};
 use wm_base::{Columns, Listings, Row, Truth};
 use wm_expr::{truth, typed};
 use wm_rowtest::{Judge, RowTest};
-use wm_select::{columns_of, projection_lasts, rows_fit};
+
+/// The columns of the only table, and None where there is not just one.
+fn columns_of(alloc: Global, tables: &Listings) -> Option<Columns>
+    ensures { IfSome result (λ columns. columns ≡ all_columns tables.now) }
+{
+    match tables.as_slice() {
+        [table] => table.columns.copy(alloc).ok(),
+        _ => None,
+    }
+}
+
+/// Whether each row of a listing fits its columns.
+fn rows_fit(tables: &Listings) -> bool
+    ensures { result ≡ do_fit tables.now }
+{
+    tables
+        .as_slice()
+        .iter()
+        .all(|table| all_fit(&table.columns, table.rows.as_slice()))
+}
 
 /// Whether the first row is found by a test that is made of the closure.
 fn found_by<F: Fn(&Row) -> Truth + Judge + Drop>(
     alloc: Global,
     query: &Query,
-    tables: &Listings,
+    tables: Listings,
     cond: &Cond,
     columns: &Columns,
     test: F,
@@ -29,8 +48,8 @@ fn found_by<F: Fn(&Row) -> Truth + Judge + Drop>(
     requires callable { (row : RowOf) → fits columns.now row ≡ true → ∥ F.may test row ∥₁ }
     requires answers { (row : RowOf) (truth : TruthOf) → fits columns.now row ≡ true → F.gives test row truth → truth ≡ truth_of (cond_view cond.now) columns.now row }
     requires condition { cond_view cond.now ≡ where_is (filter_view query.now.filter) }
-    requires columns { columns.now ≡ all_columns tables.now }
-    requires fitting { do_fit tables.now ≡ true }
+    requires columns { columns.now ≡ all_columns tables }
+    requires fitting { do_fit tables ≡ true }
     requires lasting { items_last (projection_view query.now.projection) ≡ true }
 {
     let test = RowTest::new(cond, columns, test);
@@ -39,19 +58,23 @@ fn found_by<F: Fn(&Row) -> Truth + Judge + Drop>(
     is_chosen && is_answered
 }
 
-/// Whether it is found where the condition is that of the query and the columns are those of the tables.
+/// Whether it is found where the condition is that of the query, which shows all columns, and the columns are those of
+/// the tables.
 fn found_where(
     alloc: Global,
     query: &Query,
-    tables: &Listings,
+    tables: Listings,
     cond: &Cond,
     columns: &Columns,
     calls: &Cell<u64>,
 ) -> bool
     requires condition { cond_view cond.now ≡ where_is (filter_view query.now.filter) }
-    requires columns { columns.now ≡ all_columns tables.now }
+    requires columns { columns.now ≡ all_columns tables }
 {
-    if typed(cond, columns) && rows_fit(tables) && projection_lasts(&query.projection) {
+    if typed(cond, columns)
+        && rows_fit(&tables)
+        && matches!(query.projection, Projection::All)
+    {
         found_by(alloc, query, tables, cond, columns, |row: &Row| {
             calls.set(calls.get().saturating_add(1));
             truth(cond, columns, row)
@@ -61,26 +84,14 @@ fn found_where(
     }
 }
 
-fn found(
-    alloc: Global,
-    query: &Query,
-    tables: &Listings,
-    columns: &Columns,
-    calls: &Cell<u64>,
-) -> bool
-    requires { columns.now ≡ all_columns tables.now }
-{
-    match &query.filter {
-        Some(cond) => found_where(alloc, query, tables, cond, columns, calls),
-        None => false,
-    }
-}
-
 /// Whether a change chooses the first row alone by the query's condition, and the query answers it, with the calls of
 /// the test counted in the cell.
-pub fn finds_first(alloc: Global, query: &Query, tables: &Listings, calls: &Cell<u64>) -> bool {
-    match columns_of(alloc, tables) {
-        Ok(columns) => found(alloc, query, tables, &columns, calls),
-        Err(_) => false,
+pub fn finds_first(alloc: Global, query: &Query, tables: Listings, calls: &Cell<u64>) -> bool {
+    let Some(columns) = columns_of(alloc, &tables) else {
+        return false;
+    };
+    match &query.filter {
+        Some(cond) => found_where(alloc, query, tables, cond, &columns, calls),
+        None => false,
     }
 }

@@ -39,20 +39,20 @@ fn rows_by<F: Fn(&Row) -> Truth + Judge + Drop>(
     query: &Query,
     cond: &Cond,
     columns: &Columns,
-    listings: &Listings,
+    listings: Listings,
     test: F,
 ) -> Result<RowList, SelectFault>
     requires condition { cond_view cond.now ≡ where_of (filter_view query.now.filter) }
     requires typed { typed (cond_view cond.now) columns.now ≡ true }
-    requires columns { columns.now ≡ columns_of listings.now }
-    requires fitting { rows_fit listings.now ≡ true }
+    requires columns { columns.now ≡ columns_of listings }
+    requires fitting { rows_fit listings ≡ true }
     requires lasting { projection_lasts (query_view query.now).projection ≡ true }
     requires callable { (row : RowOf) → fits columns.now row ≡ true → ∥ F.may test row ∥₁ }
     requires answers { (row : RowOf) (truth : TruthOf) → fits columns.now row ≡ true → F.gives test row truth → truth ≡ truth_of (cond_view cond.now) columns.now row }
-    ensures ok { IfOk result (λ rows. answer_of (query_view query.now) listings.now ≡ Some rows) }
+    ensures ok { IfOk result (λ rows. answer_of (query_view query.now) listings ≡ Some rows) }
     ensures within { IfOk result (λ rows. length rows ≤ row_limit) }
-    ensures out_of_range { IsErrOf result SelectFault.OutOfRange → answer_of (query_view query.now) listings.now ≡ None }
-    ensures too_many { IsErrOf result SelectFault.TooMany → IsSomeAnd (answer_of (query_view query.now) listings.now) (λ rows. row_limit < length rows) }
+    ensures out_of_range { IsErrOf result SelectFault.OutOfRange → answer_of (query_view query.now) listings ≡ None }
+    ensures too_many { IsErrOf result SelectFault.TooMany → IsSomeAnd (answer_of (query_view query.now) listings) (λ rows. row_limit < length rows) }
 {
     let test = RowTest::new(cond, columns, test);
     wm_select::select(alloc, query, listings, &test)
@@ -64,17 +64,17 @@ fn rows_with(
     query: &Query,
     cond: &Cond,
     columns: &Columns,
-    listings: &Listings,
+    listings: Listings,
 ) -> Result<RowList, SelectFault>
     requires condition { cond_view cond.now ≡ where_of (filter_view query.now.filter) }
     requires typed { typed (cond_view cond.now) columns.now ≡ true }
-    requires columns { columns.now ≡ columns_of listings.now }
-    requires fitting { rows_fit listings.now ≡ true }
+    requires columns { columns.now ≡ columns_of listings }
+    requires fitting { rows_fit listings ≡ true }
     requires lasting { projection_lasts (query_view query.now).projection ≡ true }
-    ensures ok { IfOk result (λ rows. answer_of (query_view query.now) listings.now ≡ Some rows) }
+    ensures ok { IfOk result (λ rows. answer_of (query_view query.now) listings ≡ Some rows) }
     ensures within { IfOk result (λ rows. length rows ≤ row_limit) }
-    ensures out_of_range { IsErrOf result SelectFault.OutOfRange → answer_of (query_view query.now) listings.now ≡ None }
-    ensures too_many { IsErrOf result SelectFault.TooMany → IsSomeAnd (answer_of (query_view query.now) listings.now) (λ rows. row_limit < length rows) }
+    ensures out_of_range { IsErrOf result SelectFault.OutOfRange → answer_of (query_view query.now) listings ≡ None }
+    ensures too_many { IsErrOf result SelectFault.TooMany → IsSomeAnd (answer_of (query_view query.now) listings) (λ rows. row_limit < length rows) }
 {
     rows_by(
         alloc,
@@ -92,14 +92,14 @@ fn answer_with(
     query: &Query,
     cond: &Cond,
     columns: &Columns,
-    listings: &Listings,
+    listings: Listings,
 ) -> Result<Answer, Memory>
     requires condition { cond_view cond.now ≡ where_of (filter_view query.now.filter) }
     requires typed { typed (cond_view cond.now) columns.now ≡ true }
-    requires columns { columns.now ≡ columns_of listings.now }
-    requires fitting { rows_fit listings.now ≡ true }
+    requires columns { columns.now ≡ columns_of listings }
+    requires fitting { rows_fit listings ≡ true }
     requires lasting { projection_lasts (query_view query.now).projection ≡ true }
-    ensures { IfOk result (λ a. answer_view a ≡ answer_rows (answer_of (query_view query.now) listings.now)) }
+    ensures { IfOk result (λ a. answer_view a ≡ answer_rows (answer_of (query_view query.now) listings)) }
 {
     match rows_with(alloc, query, cond, columns, listings) {
         Ok(rows) => Ok(Answer::Listing(rows)),
@@ -114,13 +114,13 @@ pub fn answer(
     alloc: Global,
     query: &Query,
     columns: &Columns,
-    listings: &Listings,
+    listings: Listings,
 ) -> Result<Answer, Memory>
     requires typed { typed (where_of (filter_view query.now.filter)) columns.now ≡ true }
-    requires columns { columns.now ≡ columns_of listings.now }
-    requires fitting { rows_fit listings.now ≡ true }
+    requires columns { columns.now ≡ columns_of listings }
+    requires fitting { rows_fit listings ≡ true }
     requires lasting { projection_lasts (query_view query.now).projection ≡ true }
-    ensures { IfOk result (λ a. answer_view a ≡ answer_rows (answer_of (query_view query.now) listings.now)) }
+    ensures { IfOk result (λ a. answer_view a ≡ answer_rows (answer_of (query_view query.now) listings)) }
 {
     match &query.filter {
         Some(cond) => answer_with(alloc, query, cond, columns, listings),

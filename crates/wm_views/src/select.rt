@@ -48,7 +48,7 @@ fn answer_over(
 {
     let sources = query.sources.as_slice();
     let listings = sources_in(alloc, image, look, sources, columns.as_slice(), query)?;
-    answer(alloc, query, columns, &listings)
+    answer(alloc, query, columns, listings)
 }
 
 /// A query whose sources are of tables that are ready for rows, and have these columns.
