@@ -1,7 +1,7 @@
 pub mod Lists
 pub mod Listed
 pub mod Loading
-pub mod Twice
+pub mod Sorting
 pub mod Newest
 pub mod Walking
 pub mod Latest

@@ -102,7 +102,7 @@ impl Image {
         ensures rules { IfOk result (λ image. keep_rules (parts_of image) ≡ true) }
         ensures graph { IfErr result (λ fault. fault ≡ ImageFault.Graph → AreRecords records → keep_rules (parts_of (by_id records)) ≡ false) }
     {
-        let records = sorted(alloc, records)?;
+        let records = sorted(records)?;
         let kept = keeps_rules(alloc, &records)?;
         if !kept {
             return Err(ImageFault::Graph);
