@@ -1,5 +1,5 @@
 -- How the ids of a page get their places, one slot after another.
-use Rattle.std.proofs.Common.{◌≡◌, ℕ, zero, suc, ◌+◌, ◌-◌, ◌<◌, ◌≤◌, ◌⊎◌, inl, inr, max, Bool, true, false, cond, ◌||◌, eqb, ltb, List, [], ◌∷◌, ◌++◌, length, get_or, take, drop, Option, Some, None, is_some, unwrap_or, refl, sym, ap, subst, ◌∙◌, arith}
+use Rattle.std.proofs.Common.{◌≡◌, ℕ, zero, suc, ◌+◌, ◌-◌, ◌<◌, ◌≤◌, ◌⊎◌, inl, inr, Bool, true, false, cond, ◌||◌, eqb, ltb, List, [], ◌∷◌, ◌++◌, length, length-append, get_or, take, drop, Option, Some, None, is_some, unwrap_or, refl, sym, ap, subst, ◌∙◌, arith}
 use Rattle.std.specs.Option.{option_or}
 use Rattle.std.proofs.lemmas.Bool.{cases_lt, lt-ltb, eqb-true}
 use Rattle.std.proofs.lemmas.List.{drop_more, take_more}
@@ -7,12 +7,11 @@ use Rattle.wm_base.specs.declared.fault.OpenFault.{OpenFault}
 use Rattle.wm_base.specs.declared.fault.OpenFault.TheVariants as faults
 use Rattle.wm_heap.specs.declared.heap.Heap.{Heap}
 use Rattle.wm_heap.specs.Asking.{Finds, FindsTwice}
-use Rattle.wm_heap.specs.Loading.{LoadsPage}
 use Rattle.wm_heap.specs.Slots.{slots_of}
-use Rattle.wm_heap.specs.Places.{at, ids_on, ids_of, place_of, IsPlaced, IsHeapOf}
-use Rattle.wm_heap.proofs.Upto.{is_in-placed, fault_found, IsPlaced-none, IsPlaced-page}
+use Rattle.wm_heap.specs.Places.{at, ids_on, ids_of, page_count, place_of, IsPlaced, IsHeapOf}
+use Rattle.wm_heap.proofs.Upto.{is_in-placed, fault_found, IsPlaced-page}
 use Rattle.wm_heap.specs.declared.slot.Slot.{Slot}
-use Rattle.wm_heap.specs.Content.{bytes_at, is_twice, slots_in, is_in, damage_on, fault_in}
+use Rattle.wm_heap.specs.Content.{bytes_at, is_twice, slots_in, is_in, damage_on, fault_in, fault_of}
 use Rattle.wm_heap.proofs.Finding.{bytes_at-append, is_twice-same}
 
 -- the first i slots have their places, and those behind them are tested as all would have been at first
@@ -62,19 +61,18 @@ placing_more old now new page slots i s within is placing free set =
 -- ---- one page after another
 
 -- the pages before this one passed each test, and their ids have their places
-pub record Loaded (held : ℕ → List ℕ) (in_file : ℕ) (places : List (ℕ × ℕ)) (ids : List (List ℕ)) (page : ℕ) : Type 0 where
+record Loaded (held : ℕ → List ℕ) (in_file : ℕ) (places : List (ℕ × ℕ)) (ids : List (List ℕ)) (page : ℕ) : Type 0 where
   pub placed : IsPlaced (slots_in held) page (at places)
   pub there : (p : ℕ) → 2 ≤ p → p < page → is_some (slots_of (held p)) ≡ true
   pub none : fault_in held in_file (page - 2) ≡ None
   pub ids_are : (p : ℕ) → 2 ≤ p → p < page → ids_on ids p ≡ ids_of (slots_in held p)
 
-pub loaded_none : (held : ℕ → List ℕ) (in_file : ℕ) (places : List (ℕ × ℕ)) (ids : List (List ℕ)) → places ≡ [] → Loaded held in_file places ids 2
-loaded_none held in_file places ids empty = record {
-  placed = IsPlaced-none (slots_in held) (at places) (λ id. ap (λ l. at l id) empty);
-  there = λ p from till. absurd (omega arith);
-  none = refl;
-  ids_are = λ p from till. absurd (omega arith);
-}
+-- the page has slots of which none has an id that had a place; they have their places now, and their ids stand last
+record LoadsPage (held : ℕ → List ℕ) (page : ℕ) (old new : List (ℕ × ℕ)) (was now : List (List ℕ)) : Type 0 where
+  there : is_some (slots_of (held page)) ≡ true
+  apart : is_twice (λ id. is_some (at old id)) (slots_in held page) ≡ false
+  placed : (id : ℕ) → at new id ≡ cond (is_some (bytes_at (slots_in held page) id)) (Some page) (at old id)
+  ids : now ≡ was ++ ids_of (slots_in held page) ∷ []
 
 damage-same : (seen other : ℕ → Bool) (page : ℕ) (whole : Bool) (o : Option (List Slot)) → ((id : ℕ) → seen id ≡ other id) → damage_on seen page whole o ≡ damage_on other page whole o
 damage-same seen other page false o same = refl
@@ -132,7 +130,7 @@ loaded_at held in_file n places new ids now len whole loaded page = record {
         let index : p - 2 ≡ length ids = omega arith in
         ap (λ l. ids_on l p) page.ids ∙ ap (λ k. get_or (ids ++ ids_of (slots_in held (n + 2)) ∷ []) k []) index ∙ get-last ids (ids_of (slots_in held (n + 2))) ∙ ap (λ k. ids_of (slots_in held k)) (sym same)
 
-pub loaded_more : (held : ℕ → List ℕ) (in_file page : ℕ) (places new : List (ℕ × ℕ)) (ids now : List (List ℕ)) → 2 ≤ page → length ids ≡ page - 2 → page < in_file → Loaded held in_file places ids page → LoadsPage held page places new ids now → Loaded held in_file new now (page + 1)
+loaded_more : (held : ℕ → List ℕ) (in_file page : ℕ) (places new : List (ℕ × ℕ)) (ids now : List (List ℕ)) → 2 ≤ page → length ids ≡ page - 2 → page < in_file → Loaded held in_file places ids page → LoadsPage held page places new ids now → Loaded held in_file new now (page + 1)
 loaded_more held in_file page places new ids now from len whole loaded loads =
     let n = page - 2 in
     let is : page ≡ n + 2 = omega arith in
@@ -150,7 +148,7 @@ found_at held in_file n m places ids (faults.Damaged p kind) lt loaded finds =
     fault_found held in_file n m (at places) (p, kind) lt before (tested held in_file n places ids loaded ∙ finds)
 
 -- the fault of a page is the fault of the store
-pub loaded_fault : (held : ℕ → List ℕ) (in_file page count : ℕ) (places : List (ℕ × ℕ)) (ids : List (List ℕ)) (e : OpenFault) → 2 ≤ page → page < count → Loaded held in_file places ids page
+loaded_fault : (held : ℕ → List ℕ) (in_file page count : ℕ) (places : List (ℕ × ℕ)) (ids : List (List ℕ)) (e : OpenFault) → 2 ≤ page → page < count → Loaded held in_file places ids page
     → Finds e (damage_on (λ id. is_some (at places id)) page (ltb page in_file) (slots_of (held page))) → Finds e (fault_in held in_file (count - 2))
 loaded_fault held in_file page count places ids e from till loaded finds =
     let n = page - 2 in
@@ -158,31 +156,45 @@ loaded_fault held in_file page count places ids e from till loaded finds =
     found_at held in_file n (count - 2) places ids e (omega arith) (subst (λ k. Loaded held in_file places ids k) is loaded)
     (subst (λ k. Finds e (damage_on (λ id. is_some (at places id)) k (ltb k in_file) (slots_of (held k)))) is finds)
 
--- all pages
-pub loaded_all : (heap : Heap) (held : ℕ → List ℕ) (in_file page count : ℕ) → count ≤ page → page ≤ max 2 count → length heap.ids.items ≡ page - 2 → Loaded held in_file heap.places.entries heap.ids.items page
-    → IsHeapOf heap held count × (fault_in held in_file (count - 2) ≡ None)
-loaded_all heap held in_file page count end few len loaded = (
-  record {
-    pages = omega arith;
-    slots = λ p from till. loaded.there p from (omega arith);
-    placed = by_size (cases_lt count 2);
-    ids = λ p from till. loaded.ids_are p from (omega arith);
-  },
-  let same : page - 2 ≡ count - 2 = omega arith in
-      subst (λ k. fault_in held in_file k ≡ None) same loaded.none,
-)
-  where
-    by_size : (count < 2) ⊎ (2 ≤ count) → IsPlaced (slots_in held) count (place_of heap)
-    by_size (inr enough) = let same : page ≡ count = omega arith in subst (λ k. IsPlaced (slots_in held) k (place_of heap)) same loaded.placed
-    by_size (inl less) = record {
-      there = λ id p e. absurd (let t = loaded.placed.there id p e in let a = t.0 in let b = t.1 in omega arith);
-      only = λ id p from till here. absurd (omega arith);
-      once = λ p from till. absurd (omega arith);
-    }
+-- ---- as a heap says it
+
+from_heap : (heap : Heap) (held : ℕ → List ℕ) (in_file page : ℕ) → IsHeapOf heap held page → fault_of held page in_file ≡ None → Loaded held in_file heap.places.entries heap.ids.items page
+from_heap heap held in_file page is sound = record { placed = is.placed; there = is.slots; none = sound; ids_are = is.ids }
+
+pub count_more : (old new : Heap) (slots : List Slot) → new.ids.items ≡ old.ids.items ++ ids_of slots ∷ [] → page_count new ≡ page_count old + 1
+count_more old new slots ids = let more = length-append old.ids.items (ids_of slots ∷ []) in let all = ap length ids in omega (arith, more, all)
+
+-- a page more, which passed each test
+heap_next : (old new : Heap) (held : ℕ → List ℕ) (in_file : ℕ) (slots : List Slot)
+    → IsHeapOf old held (page_count old) → fault_of held (page_count old) in_file ≡ None → page_count old < in_file → slots_of (held (page_count old)) ≡ Some slots
+    → is_twice (λ id. is_some (place_of old id)) slots ≡ false → ((id : ℕ) → place_of new id ≡ cond (is_some (bytes_at slots id)) (Some (page_count old)) (place_of old id))
+    → new.ids.items ≡ old.ids.items ++ ids_of slots ∷ [] → IsHeapOf new held (page_count new) × (fault_of held (page_count new) in_file ≡ None)
+heap_next old new held in_file slots is sound whole found apart placed ids =
+    let page = page_count old in
+    let are : slots ≡ slots_in held page = sym (ap (λ o. unwrap_or o []) found) in
+    let loads : LoadsPage held page old.places.entries new.places.entries old.ids.items new.ids.items = record {
+      there = ap is_some found;
+      apart = subst (λ l. is_twice (λ id. is_some (place_of old id)) l ≡ false) are apart;
+      placed = subst (λ l. (id : ℕ) → place_of new id ≡ cond (is_some (bytes_at l id)) (Some page) (place_of old id)) are placed;
+      ids = ids ∙ ap (λ l. old.ids.items ++ ids_of l ∷ []) are;
+    } in
+    let next : page + 1 ≡ page_count new = (let count = count_more old new slots ids in omega (arith, count)) in
+    let loaded : Loaded held in_file new.places.entries new.ids.items (page_count new) =
+    subst (λ k. Loaded held in_file new.places.entries new.ids.items k) next
+    (loaded_more held in_file page old.places.entries new.places.entries old.ids.items new.ids.items (omega arith) (omega arith) whole (from_heap old held in_file page is sound) loads) in
+    (record { pages = omega arith; slots = loaded.there; placed = loaded.placed; ids = loaded.ids_are }, loaded.none)
+
+pub heap_more : (old new : Heap) (held : ℕ → List ℕ) (in_file page : ℕ) (slots : List Slot) → page ≡ page_count old
+    → IsHeapOf old held (page_count old) → fault_of held (page_count old) in_file ≡ None → page < in_file → slots_of (held page) ≡ Some slots
+    → is_twice (λ id. is_some (place_of old id)) slots ≡ false → ((id : ℕ) → place_of new id ≡ cond (is_some (bytes_at slots id)) (Some page) (place_of old id))
+    → new.ids.items ≡ old.ids.items ++ ids_of slots ∷ [] → IsHeapOf new held (page_count new) × (fault_of held (page_count new) in_file ≡ None)
+heap_more old new held in_file page slots next is sound whole found apart placed ids =
+    heap_next old new held in_file slots is sound (subst (λ k. k < in_file) next whole) (subst (λ k. slots_of (held k) ≡ Some slots) next found) apart
+    (subst (λ k. (id : ℕ) → place_of new id ≡ cond (is_some (bytes_at slots id)) (Some k) (place_of old id)) next placed) ids
 
 -- ---- as the calls say it
 
-pub finds_twice : (e : OpenFault) (page in_file : ℕ) (seen : ℕ → Bool) (o : Option (List Slot)) (slots : List Slot) → FindsTwice e page (is_twice seen slots) → page < in_file → o ≡ Some slots → Finds e (damage_on seen page (ltb page in_file) o)
+finds_twice : (e : OpenFault) (page in_file : ℕ) (seen : ℕ → Bool) (o : Option (List Slot)) (slots : List Slot) → FindsTwice e page (is_twice seen slots) → page < in_file → o ≡ Some slots → Finds e (damage_on seen page (ltb page in_file) o)
 finds_twice faults.Disk page in_file seen o slots finds whole is = absurd finds
 finds_twice faults.NotStore page in_file seen o slots finds whole is = absurd finds
 finds_twice faults.Memory page in_file seen o slots finds whole is = tt
@@ -190,9 +202,15 @@ finds_twice (faults.Damaged p kind) page in_file seen o slots finds whole is =
     let t : ltb page in_file ≡ true = lt-ltb page in_file whole in
     rw (t, is, finds.2, finds.0, finds.1) refl
 
-pub whole_more : (page in_file : ℕ) → ((p : ℕ) → 2 ≤ p → p < page → p < in_file) → page < in_file → (p : ℕ) → 2 ≤ p → p < page + 1 → p < in_file
-whole_more page in_file before here p from till = by_case (cases_lt p page)
-  where
-    by_case : (p < page) ⊎ (page ≤ p) → p < in_file
-    by_case (inl less) = before p from less
-    by_case (inr more) = omega arith
+-- what is found on the next page is found first in the store
+pub heap_fault : (heap : Heap) (held : ℕ → List ℕ) (in_file page count : ℕ) (e : OpenFault) → page ≡ page_count heap → page_count heap < count → IsHeapOf heap held (page_count heap) → fault_of held (page_count heap) in_file ≡ None
+    → Finds e (damage_on (λ id. is_some (place_of heap id)) page (ltb page in_file) (slots_of (held page))) → Finds e (fault_of held count in_file)
+heap_fault heap held in_file page count e next more is sound finds =
+    loaded_fault held in_file (page_count heap) count heap.places.entries heap.ids.items e (omega arith) more (from_heap heap held in_file (page_count heap) is sound)
+    (subst (λ k. Finds e (damage_on (λ id. is_some (place_of heap id)) k (ltb k in_file) (slots_of (held k)))) next finds)
+
+-- so where one of its ids stands twice
+pub heap_twice : (heap : Heap) (held : ℕ → List ℕ) (in_file page count : ℕ) (slots : List Slot) (e : OpenFault) → page ≡ page_count heap → page_count heap < count → IsHeapOf heap held (page_count heap)
+    → fault_of held (page_count heap) in_file ≡ None → page < in_file → slots_of (held page) ≡ Some slots → FindsTwice e page (is_twice (λ id. is_some (place_of heap id)) slots) → Finds e (fault_of held count in_file)
+heap_twice heap held in_file page count slots e next more is sound whole found finds =
+    heap_fault heap held in_file page count e next more is sound (finds_twice e page in_file (λ id. is_some (place_of heap id)) (slots_of (held page)) slots finds whole found)

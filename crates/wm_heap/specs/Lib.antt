@@ -2,7 +2,6 @@ pub mod Asking
 pub mod Blobs
 pub mod Content
 pub mod Draft
-pub mod Loading
 pub mod Places
 pub mod Plan
 pub mod Slots

@@ -20,5 +20,4 @@ pub use heap::Heap;
 pub use reading::read_slots;
 pub use slot::{Slot, Slots};
 pub use spot::{Spot, Spots};
-pub use stored::stored_slots;
 pub use writing::write_slots;

@@ -1,10 +1,9 @@
 //! How a heap is read from the pages of a store, or put on the first of them.
-ghost use Rattle.std.specs.Prelude.{◌≡◌, ℕ, ◌+◌, ◌-◌, ◌<◌, ◌≤◌, Bool, false, nat_lt, if◌then◌else◌, List, [], ◌∷◌, ◌++◌, length, Some, None, is_some, IfOk, OnOk, IfErr, IsErrOf};
+ghost use Rattle.std.specs.Prelude.{◌≡◌, ℕ, ◌+◌, ◌<◌, ◌≤◌, Bool, false, nat_lt, if◌then◌else◌, List, [], ◌∷◌, ◌++◌, Some, None, is_some, IfOk, OnOk, IfErr, IsErrOf};
 ghost use Rattle.wm_base.specs.declared.fault.OpenFault.TheVariants as faults;
 ghost use Rattle.wm_heap.specs.Asking.{Finds, FindsTwice};
-ghost use Rattle.wm_heap.specs.Content.{bytes_at, is_twice, damage_on, fault_of};
-ghost use Rattle.wm_heap.specs.Loading.{LoadsPage};
-ghost use Rattle.wm_heap.specs.Places.{at, ids_of, IsHeapOf};
+ghost use Rattle.wm_heap.specs.Content.{bytes_at, is_twice, damage_on, fault_of, slots_in};
+ghost use Rattle.wm_heap.specs.Places.{at, ids_of, page_count, place_of, IsHeapOf};
 ghost use Rattle.wm_heap.specs.Slots.{slots_of, page_of, used};
 ghost use Rattle.wm_heap.specs.Blobs.{AreBlobs, slots_put};
 ghost use Rattle.wm_heap.specs.Plan.{root_of};
@@ -16,7 +15,7 @@ use crate::blob::{Blob, Blobs};
 use crate::draft::root_pages;
 use crate::heap::Heap;
 use crate::ids::{Ids, ids_of_slots};
-use crate::places::{Places, page_of as place_in, set_page_of};
+use crate::places::{Places, set_page_of};
 use crate::reading::read_slots;
 use crate::room::Room;
 use crate::slot::{Slot, Slots, slot_of};
@@ -67,74 +66,54 @@ fn place_all(places: &mut Places, page: u64, slots: &[Slot]) -> Result<(), OpenF
     ensures twice { IfErr result (λ e. FindsTwice e page (is_twice (λ id. is_some (at places.old.entries id)) slots.now)) }
 {
     for slot in slots {
-        if place_in(places, slot.id).is_some() {
+        let before = set_page_of(places, slot.id, page)?;
+        if before.is_some() {
             return Err(OpenFault::Damaged {
                 page,
                 kind: Damage::Twice,
             });
         }
-        set_page_of(places, slot.id, page)?;
     }
     Ok(())
 }
 
-/// Keeps the ids of the slots of a page, the page of each, and how much room it has.
-fn keep_slots(
-    alloc: Global,
-    places: &mut Places,
-    ids: &mut Vec<Ids>,
-    room: &mut Room,
-    page: u64,
-    slots: &Slots,
-) -> Result<(), OpenFault>
-    ensures ok { OnOk result (is_twice (λ id. is_some (at places.old.entries id)) slots.now ≡ false) }
-    ensures placed { OnOk result ((id : ℕ) → at places.new.entries id ≡ (if is_some (bytes_at slots.now id) then Some page else at places.old.entries id)) }
-    ensures ids { OnOk result (ids.new.items ≡ ids.old.items ++ ids_of slots.now ∷ []) }
-    ensures twice { IfErr result (λ e. FindsTwice e page (is_twice (λ id. is_some (at places.old.entries id)) slots.now)) }
-{
-    place_all(places, page, slots.as_slice())?;
-    ids.push(ids_of_slots(alloc, slots.as_slice())?)?;
-    room.prefer(page);
-    room.keep(page, slots.left())?;
-    Ok(())
-}
-
-/// Keeps what a page says of its ids and its room.
-fn load_page<G: Pages>(
-    alloc: Global,
-    places: &mut Places,
-    ids: &mut Vec<Ids>,
-    room: &mut Room,
-    pages: &mut G,
-    page: u64,
-) -> Result<(), OpenFault>
-    requires { page < G.in_use pages.old }
-    ensures loaded { G.tells → OnOk result (LoadsPage (G.held pages.old) page places.old.entries places.new.entries ids.old.items ids.new.items) }
-    ensures len { OnOk result (length ids.new.items ≡ length ids.old.items + 1) }
-    ensures whole { OnOk result (page < G.in_file pages.old) }
-    ensures fault { G.tells → IfErr result (λ e. Finds e (damage_on (λ id. is_some (at places.old.entries id)) page (nat_lt page (G.in_file pages.old)) (slots_of (G.held pages.old page)))) }
-    ensures store { IsErrOf result faults.NotStore → ⊥ }
-    ensures told { G.tells → G.held pages.new ≡ G.held pages.old }
-    ensures past { G.tells → G.past pages.new ≡ G.past pages.old }
-    ensures source { G.source pages.new ≡ G.source pages.old }
-    ensures in_use { G.in_use pages.new ≡ G.in_use pages.old }
-    ensures in_file { G.in_file pages.new ≡ G.in_file pages.old }
-    ensures cause { OpenCause (G.faults pages.old) (G.faults pages.new) result }
-{
-    let slots = load_slots(alloc, pages, page)?;
-    let kept = keep_slots(alloc, places, ids, room, page, &slots);
-    drop(slots);
-    kept?;
-    Ok(())
-}
-
 impl Heap {
-    /// Where the records of a store stand, after each page was tested.
-    pub fn load<G: Pages>(alloc: Global, pages: &mut G) -> Result<Heap, OpenFault>
-        ensures heap { G.tells → IfOk result (λ heap. IsHeapOf heap (G.held pages.old) (G.in_use pages.old)) }
-        ensures count { IfOk result (λ heap. length heap.ids.items ≡ G.in_use pages.old - 2) }
-        ensures whole { OnOk result ((p : ℕ) → 2 ≤ p → p < G.in_use pages.old → p < G.in_file pages.old) }
-        ensures undamaged { G.tells → OnOk result (fault_of (G.held pages.old) (G.in_use pages.old) (G.in_file pages.old) ≡ None) }
+    /// The heap of a store of which no page with slots was loaded.
+    pub fn new(alloc: Global) -> Heap
+        ensures count { page_count result ≡ 2 }
+        ensures heap { (held : ℕ → List ℕ) → IsHeapOf result held 2 }
+    {
+        Heap {
+            ids: Vec::new(alloc),
+            places: Places::new(alloc),
+            room: Room::new(alloc),
+        }
+    }
+
+    /// Keeps the ids of the slots of the next page, that page as the place of each, and how much room it has.
+    fn keep_slots(&mut self, alloc: Global, page: u64, slots: &Slots) -> Result<(), OpenFault>
+        ensures ok { OnOk result (is_twice (λ id. is_some (place_of self.old id)) slots.now ≡ false) }
+        ensures placed { OnOk result ((id : ℕ) → place_of self.new id ≡ (if is_some (bytes_at slots.now id) then Some page else place_of self.old id)) }
+        ensures ids { OnOk result (self.new.ids.items ≡ self.old.ids.items ++ ids_of slots.now ∷ []) }
+        ensures twice { IfErr result (λ e. FindsTwice e page (is_twice (λ id. is_some (place_of self.old id)) slots.now)) }
+    {
+        place_all(&mut self.places, page, slots.as_slice())?;
+        self.ids.push(ids_of_slots(alloc, slots.as_slice())?)?;
+        self.room.prefer(page);
+        self.room.keep(page, slots.left())?;
+        Ok(())
+    }
+
+    /// Loads the page behind those that were loaded and passed each test: tests it, keeps where its records stand, and
+    /// gives its slots. A fault is the first of the store.
+    pub fn load_page<G: Pages>(&mut self, alloc: Global, pages: &mut G) -> Result<Slots, OpenFault>
+        requires next { page_count self.old < G.in_use pages.old }
+        requires heap { G.tells → IsHeapOf self.old (G.held pages.old) (page_count self.old) }
+        requires undamaged { G.tells → fault_of (G.held pages.old) (page_count self.old) (G.in_file pages.old) ≡ None }
+        ensures slots { G.tells → IfOk result (λ slots. slots ≡ slots_in (G.held pages.old) (page_count self.old)) }
+        ensures count { OnOk result (page_count self.new ≡ page_count self.old + 1) }
+        ensures heap { G.tells → OnOk result (IsHeapOf self.new (G.held pages.old) (page_count self.new)) }
+        ensures undamaged { G.tells → OnOk result (fault_of (G.held pages.old) (page_count self.new) (G.in_file pages.old) ≡ None) }
         ensures fault { G.tells → IfErr result (λ e. Finds e (fault_of (G.held pages.old) (G.in_use pages.old) (G.in_file pages.old))) }
         ensures store { IsErrOf result faults.NotStore → ⊥ }
         ensures told { G.tells → G.held pages.new ≡ G.held pages.old }
@@ -144,13 +123,10 @@ impl Heap {
         ensures in_file { G.in_file pages.new ≡ G.in_file pages.old }
         ensures cause { OpenCause (G.faults pages.old) (G.faults pages.new) result }
     {
-        let mut places = Places::new(alloc);
-        let mut ids = Vec::new(alloc);
-        let mut room = Room::new(alloc);
-        for page in 2..pages.count() {
-            load_page(alloc, &mut places, &mut ids, &mut room, pages, page)?;
-        }
-        Ok(Heap { ids, places, room })
+        let page = self.page_count();
+        let slots = load_slots(alloc, pages, page)?;
+        self.keep_slots(alloc, page, &slots)?;
+        Ok(slots)
     }
 
     /// The heap of a store that holds these records alone, and its pages: page 1 and page 2.

@@ -1,5 +1,5 @@
 //! The page of each id.
-ghost use Rattle.std.specs.Prelude.{◌≡◌, ℕ, Some, None, ◌==◌, if◌then◌else◌, OnOk, OnErr};
+ghost use Rattle.std.specs.Prelude.{◌≡◌, ℕ, Some, None, ◌==◌, if◌then◌else◌, IfOk, OnOk, OnErr};
 ghost use Rattle.wm_heap.specs.Places.{at};
 
 use wm_base::Memory;
@@ -15,12 +15,14 @@ pub fn page_of(places: &Places, id: u64) -> Option<u64>
     places.get(id).copied()
 }
 
-pub fn set_page_of(places: &mut Places, id: u64, page: u64) -> Result<(), Memory>
+/// Gives an id its page, and tells the one that it had.
+pub fn set_page_of(places: &mut Places, id: u64, page: u64) -> Result<Option<u64>, Memory>
+    ensures before { IfOk result (λ before. before ≡ at places.old.entries id) }
     ensures ok { OnOk result ((j : ℕ) → at places.new.entries j ≡ (if j == id then Some page else at places.old.entries j)) }
     ensures err { OnErr result (places.new.entries ≡ places.old.entries) }
 {
-    places.insert(id, page)?;
-    Ok(())
+    let before = places.insert(id, page)?;
+    Ok(before)
 }
 
 pub fn clear_page_of(places: &mut Places, id: u64)
