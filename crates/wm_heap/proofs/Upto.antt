@@ -111,14 +111,6 @@ fault_found held whole n m place fault lt none damage = fault-goes_on held whole
 
 -- ---- loading
 
--- no page, and no place
-pub IsPlaced-none : (slots : ℕ → List Slot) (place : ℕ → Option ℕ) → ((id : ℕ) → place id ≡ None) → IsPlaced slots 2 place
-IsPlaced-none slots place none = record {
-  there = λ id p e. absurd (let n = none id in cc);
-  only = λ id p from till here. absurd (omega arith);
-  once = λ p from till. absurd (omega arith);
-}
-
 -- a page more, whose ids have no place yet
 pub IsPlaced-page : (slots : ℕ → List Slot) (count : ℕ) (place new : ℕ → Option ℕ) → IsPlaced slots count place → 2 ≤ count → is_twice (λ id. is_some (place id)) (slots count) ≡ false
     → ((id : ℕ) → new id ≡ cond (is_some (bytes_at (slots count) id)) (Some count) (place id)) → IsPlaced slots (count + 1) new

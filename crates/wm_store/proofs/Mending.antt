@@ -1,5 +1,5 @@
 -- A store is opened: what the journal says, what the pages say, and what is left.
-use Rattle.std.proofs.Common.{◌≡◌, ℕ, ◌-◌, ◌*◌, ◌/◌, ◌<◌, ◌≤◌, ◌⊎◌, inl, inr, ⊎_elim, true, List, length, None, Ok, sym, ap, subst, ◌∙◌, arith}
+use Rattle.std.proofs.Common.{◌≡◌, ℕ, ◌-◌, ◌*◌, ◌/◌, ◌≤◌, ◌⊎◌, inl, inr, ⊎_elim, true, List, length, Result, Ok, Err, IfOk, OnOk, sym, ap, subst, ◌∙◌, arith}
 use Rattle.wm_base.specs.declared.fault.OpenFault.{OpenFault}
 use Rattle.wm_base.specs.declared.fault.OpenFault.TheVariants as faults
 use Rattle.wm_spec.specs.declared.record.stored.Stored.{Stored}
@@ -9,52 +9,23 @@ use Rattle.wm_station.proofs.Steps.{weaken}
 use Rattle.wm_journal.specs.Disk.{page, is_made}
 use Rattle.wm_journal.specs.Opening.{Says, IsUntouched}
 use Rattle.wm_journal.specs.Store.{IsAtRest, Keeps, Settles}
-use Rattle.wm_heap.specs.Asking.{Finds}
-use Rattle.wm_heap.specs.Content.{slots_in, content, fault_of}
 use Rattle.wm_heap.specs.Places.{IsHeapOf}
 use Rattle.wm_store.specs.Answers.{SaysOf, FindsIn}
-use Rattle.wm_store.specs.Opened.{records_in, unread_in, pages_opened, opened, Held, SaysAs, HoldsAs}
+use Rattle.wm_store.specs.Opened.{pages_opened, opened, Held, SaysAs, HoldsAs}
 use Rattle.wm_store.specs.Stores.{IsStoreOf}
 use Rattle.wm_store.specs.declared.store.Store.{Store}
-use Rattle.wm_store.proofs.Opening.{pages_fault, pages_unread, pages_found, opened_damage, opened-keeps, made-keeps, opened_behind}
+use Rattle.wm_store.proofs.Opening.{pages_whole, opened_damage, opened-keeps, made-keeps, opened_behind}
 
 -- ---- the pages
 
-finds_fault : (e : OpenFault) (a : ℕ → List ℕ) (count whole : ℕ) → Finds e (fault_of a count whole) → FindsIn e (pages_opened a count whole)
-finds_fault faults.Disk a count whole finds = tt
-finds_fault faults.NotStore a count whole finds = absurd finds
-finds_fault faults.Memory a count whole finds = tt
-finds_fault (faults.Damaged p kind) a count whole finds = pages_fault a count whole (p, kind) finds
+-- what they say where nothing was done
+pub opened_at : (old at : History) (count whole : ℕ) → at ≡ old → whole ≡ length (now old) / 4096 → pages_opened (page (now at)) count whole ≡ pages_opened (page (now old)) count (length (now old) / 4096)
+opened_at old at count whole same whole_is = ap (λ n. pages_opened (page (now at)) count n) whole_is ∙ ap (λ (h : History). pages_opened (page (now h)) count (length (now old) / 4096)) same
 
-finds_unread_in : (e : OpenFault) (a : ℕ → List ℕ) (count whole : ℕ) → fault_of a count whole ≡ None → Finds e (unread_in (slots_in a) (count - 2)) → FindsIn e (pages_opened a count whole)
-finds_unread_in faults.Disk a count whole sound finds = tt
-finds_unread_in faults.NotStore a count whole sound finds = absurd finds
-finds_unread_in faults.Memory a count whole sound finds = tt
-finds_unread_in (faults.Damaged p kind) a count whole sound finds = pages_unread a count whole (p, kind) sound finds
-
-pub load_fault : (old at : History) (e : OpenFault) (count whole : ℕ) → at ≡ old → whole ≡ length (now old) / 4096 → Finds e (fault_of (page (now at)) count whole) → FindsIn e (pages_opened (page (now old)) count (length (now old) / 4096))
-load_fault old at e count whole same whole_is finds =
-    finds_fault e (page (now old)) count (length (now old) / 4096) (subst (λ n. Finds e (fault_of (page (now old)) count n)) whole_is (subst (λ h. Finds e (fault_of (page (now h)) count whole)) same finds))
-
-pub sound_at : (old at : History) (count whole : ℕ) → at ≡ old → whole ≡ length (now old) / 4096 → fault_of (page (now at)) count whole ≡ None → fault_of (page (now old)) count (length (now old) / 4096) ≡ None
-sound_at old at count whole same whole_is sound = subst (λ n. fault_of (page (now old)) count n ≡ None) whole_is (subst (λ h. fault_of (page (now h)) count whole ≡ None) same sound)
-
-pub read_fault_in : (old at : History) (e : OpenFault) (pages : ℕ → List ℕ) (count whole n : ℕ) → at ≡ old → whole ≡ length (now old) / 4096 → fault_of (page (now at)) count whole ≡ None → pages ≡ page (now at) → n ≡ count
-    → Finds e (unread_in (slots_in pages) (n - 2)) → FindsIn e (pages_opened (page (now old)) count (length (now old) / 4096))
-read_fault_in old at e pages count whole n same whole_is sound pages_are n_is finds =
-    finds_unread_in e (page (now old)) count (length (now old) / 4096) (sound_at old at count whole same whole_is sound)
-    (subst (λ (h : History). Finds e (unread_in (slots_in (page (now h))) (count - 2))) same (subst (λ (f : ℕ → List ℕ). Finds e (unread_in (slots_in f) (count - 2))) pages_are (subst (λ k. Finds e (unread_in (slots_in pages) (k - 2))) n_is finds)))
-
-pub records_found : (old at : History) (pages : ℕ → List ℕ) (count whole n : ℕ) (records : List Stored) → at ≡ old → whole ≡ length (now old) / 4096 → fault_of (page (now at)) count whole ≡ None → pages ≡ page (now at) → n ≡ count
-    → unread_in (slots_in pages) (n - 2) ≡ None → records ≡ records_in (content pages n) → pages_opened (page (now old)) count (length (now old) / 4096) ≡ Ok records
-records_found old at pages count whole n records same whole_is sound pages_are n_is read are =
-    let both : pages ≡ page (now old) = pages_are ∙ ap (λ (h : History). page (now h)) same in
-    pages_found (page (now old)) count (length (now old) / 4096) records (sound_at old at count whole same whole_is sound)
-    (subst (λ (f : ℕ → List ℕ). unread_in (slots_in f) (count - 2) ≡ None) both (subst (λ k. unread_in (slots_in pages) (k - 2) ≡ None) n_is read))
-    (are ∙ ap (λ k. records_in (content pages k)) n_is ∙ ap (λ (f : ℕ → List ℕ). records_in (content f count)) both)
-
-pub size_found : (file : List ℕ) (count whole : ℕ) → 3 ≤ count → whole ≡ length file / 4096 → ((p : ℕ) → 2 ≤ p → p < count → p < whole) → count * 4096 ≤ length file
-size_found file count whole enough whole_is below = let last = below (count - 1) (omega arith) (omega arith) in omega arith
+pub size_found : {A : Type 0} (r : Result (A × List Stored) OpenFault) (file : List ℕ) (count whole : ℕ) (pages : ℕ → List ℕ) → 3 ≤ count → whole ≡ length file / 4096
+    → IfOk r (λ x. pages_opened pages count whole ≡ Ok x.1) → OnOk r (count * 4096 ≤ length file)
+size_found (Ok x) file count whole pages enough whole_is opens = let last = pages_whole pages count whole x.1 opens (count - 1) (omega arith) (omega arith) in omega arith
+size_found (Err e) file count whole pages enough whole_is opens = tt
 
 -- ---- the file
 

@@ -155,6 +155,10 @@ passed a count whole records e =
     let last = u.1 in
     record { sound = t.0; read = u.0; are = cc }
 
+-- and lie whole in the file
+pub pages_whole : (a : ℕ → List ℕ) (count whole : ℕ) (records : List Stored) → pages_opened a count whole ≡ Ok records → (p : ℕ) → 2 ≤ p → p < count → p < whole
+pages_whole a count whole records e p from till = fault-below a whole (count - 2) (passed a count whole records e).sound p from (omega arith)
+
 -- ---- files
 
 pub opened_damage : (file : List ℕ) (f : ℕ × Damage) → damage_of file ≡ Some f → opened file ≡ Err f

@@ -1,6 +1,6 @@
 -- The records of slots, page by page.
-use Rattle.std.proofs.Common.{◌≡◌, ℕ, zero, suc, ◌+◌, ◌-◌, ◌<◌, ◌≤◌, ◌⊎◌, inl, inr, max, Bool, true, false, cond, eqb, List, [], ◌∷◌, ◌++◌, Option, Some, None, is_some, refl, sym, ap, subst, ◌∙◌, append_assoc, arith}
-use Rattle.std.specs.Option.{option_and_then}
+use Rattle.std.proofs.Common.{◌≡◌, ℕ, zero, suc, ◌+◌, ◌-◌, ◌<◌, ◌≤◌, ◌⊎◌, inl, inr, Bool, true, false, cond, eqb, List, [], ◌∷◌, ◌++◌, Option, Some, None, is_some, Ok, Err, refl, sym, ap, subst, ◌∙◌, append_assoc, arith}
+use Rattle.std.specs.Option.{option_and_then, option_map, option_or}
 use Rattle.std.proofs.lemmas.Bool.{cases_lt}
 use Rattle.wm_base.proofs.Plain.{option_or_parts}
 use Rattle.wm_base.specs.declared.fault.Damage.{Damage}
@@ -13,9 +13,10 @@ use Rattle.wm_spec.specs.Records.{record_at}
 use Rattle.wm_codec.specs.Reading.{record_of}
 use Rattle.wm_heap.specs.declared.slot.Slot.{Slot}
 use Rattle.wm_heap.specs.Asking.{Finds}
-use Rattle.wm_heap.specs.Content.{bytes_at, slots_upto, slots_in, content}
-use Rattle.wm_store.specs.Answers.{FindsUnread}
-use Rattle.wm_store.specs.Opened.{stored_at, records_in, are_records, unread_in}
+use Rattle.wm_heap.specs.Content.{bytes_at, slots_upto, slots_in, fault_of}
+use Rattle.wm_store.specs.Answers.{FindsIn}
+use Rattle.wm_store.specs.Opened.{stored_at, records_in, are_records, unread_in, pages_opened}
+use Rattle.wm_store.proofs.Opening.{pages_fault, pages_unread, pages_found}
 
 pub records_in-append : (xs ys : List Slot) → records_in (xs ++ ys) ≡ records_in xs ++ records_in ys
 records_in-append [] ys = refl
@@ -92,41 +93,53 @@ unread-goes_on slots n (suc m) f le e = by_case (cases_lt m n) (λ less. unread-
     by_case (inl more) rest = let same : n ≡ suc m = omega arith in subst (λ k. unread_in slots k ≡ Some f) same e
     by_case (inr less) rest = rw (rest less) refl
 
--- what was read of the pages before this one
-pub record Read (pages : ℕ → List ℕ) (page : ℕ) (records : List Stored) : Type 0 where
-  pub none : unread_in (slots_in pages) (page - 2) ≡ None
-  pub are : records ≡ records_in (slots_upto (slots_in pages) (page - 2))
+-- what was read of the pages before this one: the records, as long as each slot has one
+pub record Read (pages : ℕ → List ℕ) (page : ℕ) (records : List Stored) (unread : Option ℕ) : Type 0 where
+  pub found : unread_in (slots_in pages) (page - 2) ≡ option_map (λ p. (p, damages.Record)) unread
+  pub are : unread ≡ None → records ≡ records_in (slots_upto (slots_in pages) (page - 2))
 
-pub read_more : (pages : ℕ → List ℕ) (page : ℕ) (old new : List Stored) → 2 ≤ page → Read pages page old → are_records (slots_in pages page) ≡ true → new ≡ old ++ records_in (slots_in pages page) → Read pages (page + 1) new
-read_more pages page old new from read are more =
+pub read_none : (pages : ℕ → List ℕ) (records : List Stored) (unread : Option ℕ) → records ≡ [] → unread ≡ None → Read pages 2 records unread
+read_none pages records unread empty none = record { found = ap (option_map (λ p. (p, damages.Record))) (sym none); are = λ e. empty }
+
+pub read_more : (pages : ℕ → List ℕ) (page : ℕ) (old new : List Stored) (was now : Option ℕ) → 2 ≤ page → Read pages page old was
+    → now ≡ option_or was (cond (are_records (slots_in pages page)) None (Some page)) → (now ≡ None → new ≡ old ++ records_in (slots_in pages page)) → Read pages (page + 1) new now
+read_more pages page old new was now from read told more =
     let n = page - 2 in
     let next : page + 1 - 2 ≡ suc n = omega arith in
     let is : n + 2 ≡ page = omega arith in
     record {
-      none = rw (next, read.none, is, are) refl;
-      are =
-          more ∙ ap (λ l. l ++ records_in (slots_in pages page)) read.are ∙ sym (records_in-append (slots_upto (slots_in pages) n) (slots_in pages page))
+      found = rw (next, read.found, is, told) (by_test was (are_records (slots_in pages page)));
+      are = λ none.
+          more none
+          ∙ ap (λ l. l ++ records_in (slots_in pages page)) (read.are (option_or_parts was (cond (are_records (slots_in pages page)) None (Some page)) (sym told ∙ none)).0)
+          ∙ sym (records_in-append (slots_upto (slots_in pages) n) (slots_in pages page))
           ∙ ap (λ k. records_in (slots_upto (slots_in pages) n ++ slots_in pages k)) (sym is) ∙ ap (λ k. records_in (slots_upto (slots_in pages) k)) (sym next);
     }
+  where
+    by_test : (o : Option ℕ) (b : Bool) → option_or {T = ℕ × Damage} (option_map (λ p. (p, damages.Record)) o) (cond b None (Some (page, damages.Record))) ≡ option_map (λ p. (p, damages.Record)) (option_or o (cond b None (Some page)))
+    by_test None true = refl
+    by_test None false = refl
+    by_test (Some p) b = refl
 
-pub read_fault : (pages : ℕ → List ℕ) (page count : ℕ) (records : List Stored) (e : OpenFault) → 2 ≤ page → page < count → Read pages page records → Finds e (cond (are_records (slots_in pages page)) None (Some (page, damages.Record)))
-    → Finds e (unread_in (slots_in pages) (count - 2))
-read_fault pages page count records faults.Disk from till read finds = tt
-read_fault pages page count records faults.NotStore from till read finds = absurd finds
-read_fault pages page count records faults.Memory from till read finds = tt
-read_fault pages page count records (faults.Damaged p kind) from till read finds =
-    let n = page - 2 in
-    let is : n + 2 ≡ page = omega arith in
-    let here : unread_in (slots_in pages) (suc n) ≡ Some (p, kind) = rw (read.none, is) finds in
-    unread-goes_on (slots_in pages) (suc n) (count - 2) (p, kind) (omega arith) here
+-- ---- what they say when they are opened
 
-pub read_all : (pages : ℕ → List ℕ) (page count : ℕ) (records : List Stored) → count ≤ page → page ≤ max 2 count → Read pages page records → (records ≡ records_in (content pages count)) × (unread_in (slots_in pages) (count - 2) ≡ None)
-read_all pages page count records end few read =
-    let same : page - 2 ≡ count - 2 = omega arith in
-    (read.are ∙ ap (λ k. records_in (slots_upto (slots_in pages) k)) same, subst (λ k. unread_in (slots_in pages) k ≡ None) same read.none)
+-- damage of a page
+pub pages_damaged : (pages : ℕ → List ℕ) (count whole : ℕ) (e : OpenFault) → Finds e (fault_of pages count whole) → FindsIn e (pages_opened pages count whole)
+pages_damaged pages count whole faults.Disk finds = tt
+pages_damaged pages count whole faults.NotStore finds = absurd finds
+pages_damaged pages count whole faults.Memory finds = tt
+pages_damaged pages count whole (faults.Damaged p kind) finds = pages_fault pages count whole (p, kind) finds
 
-pub finds_unread : (e : OpenFault) (page : ℕ) (are : Bool) → FindsUnread e page are → Finds e (cond are None (Some (page, damages.Record)))
-finds_unread faults.Disk page are finds = absurd finds
-finds_unread faults.NotStore page are finds = absurd finds
-finds_unread faults.Memory page are finds = tt
-finds_unread (faults.Damaged p kind) page are finds = rw (finds.2, finds.0, finds.1) refl
+-- a slot without a record, where all pages were read and none is damaged
+pub pages_without : (pages : ℕ → List ℕ) (page count whole : ℕ) (records : List Stored) (unread : Option ℕ) (e : OpenFault) → page ≡ count → fault_of pages page whole ≡ None → Read pages page records unread
+    → Finds e (option_map (λ p. (p, damages.Record)) unread) → FindsIn e (pages_opened pages count whole)
+pages_without pages page count whole records unread faults.Disk all sound read finds = tt
+pages_without pages page count whole records unread faults.NotStore all sound read finds = absurd finds
+pages_without pages page count whole records unread faults.Memory all sound read finds = tt
+pages_without pages page count whole records unread (faults.Damaged p kind) all sound read finds =
+    subst (λ k. pages_opened pages k whole ≡ Err (p, kind)) all (pages_unread pages page whole (p, kind) sound (read.found ∙ finds))
+
+-- the records
+pub pages_read : (pages : ℕ → List ℕ) (page count whole : ℕ) (records : List Stored) (unread : Option ℕ) → page ≡ count → fault_of pages page whole ≡ None → Read pages page records unread → unread ≡ None → pages_opened pages count whole ≡ Ok records
+pages_read pages page count whole records unread all sound read none =
+    subst (λ k. pages_opened pages k whole ≡ Ok records) all (pages_found pages page whole records sound (read.found ∙ ap (option_map (λ p. (p, damages.Record))) none) (read.are none))

@@ -1,9 +1,6 @@
 -- One slot after another is read, and one change after another is spelled.
 use Rattle.std.proofs.Common.{◌≡◌, ℕ, ◌+◌, ◌<◌, ◌≤◌, ◌↔◌, true, false, List, [], ◌∷◌, ◌++◌, length, get_or, take, drop, Option, Some, None, IfSome, refl, sym, ap, subst, ◌∙◌, append_assoc}
 use Rattle.std.proofs.lemmas.List.{take_more, drop_more, take-append-drop, append-nil}
-use Rattle.wm_base.specs.declared.fault.Damage.{Damage}
-use Rattle.wm_base.specs.declared.fault.OpenFault.{OpenFault}
-use Rattle.wm_base.specs.declared.fault.OpenFault.TheVariants as faults
 use Rattle.wm_spec.specs.declared.record.Record.{Record}
 use Rattle.wm_spec.specs.declared.record.stored.Stored.{Stored}
 use Rattle.wm_spec.specs.declared.record.batch.Change.{Change}
@@ -13,7 +10,6 @@ use Rattle.wm_codec.proofs.Exact.{IsBytes}
 use Rattle.wm_codec.proofs.ExactRecords.{record_takes, record_again}
 use Rattle.wm_heap.specs.declared.blob.Blob.{Blob}
 use Rattle.wm_heap.specs.declared.slot.Slot.{Slot}
-use Rattle.wm_heap.specs.Asking.{Finds}
 use Rattle.wm_store.specs.Opened.{stored_at, records_in, are_records}
 use Rattle.wm_store.specs.Spelled.{FitPages, HaveSpellings, blob_of, blobs_of}
 use Rattle.wm_store.proofs.Reading.{records_in-append, are_records-append, are_records-bad}
@@ -51,13 +47,6 @@ bad_slot slots i s within is none =
     let at_i : drop i slots ≡ s ∷ drop (i + 1) slots = drop_more slots i s within ∙ ap (λ x. x ∷ drop (i + 1) slots) (sym is) in
     let all : take i slots ++ s ∷ drop (i + 1) slots ≡ slots = ap (λ l. take i slots ++ l) (sym at_i) ∙ take-append-drop i slots in
     ap are_records (sym all) ∙ are_records-bad (take i slots) (drop (i + 1) slots) s none
-
--- nothing that was looked for was found
-pub finds_nothing : (e : OpenFault) (found : Option (ℕ × Damage)) → Finds e None → Finds e found
-finds_nothing faults.Disk found finds = tt
-finds_nothing faults.NotStore found finds = absurd finds
-finds_nothing faults.Memory found finds = tt
-finds_nothing (faults.Damaged p kind) found finds = absurd cc
 
 -- ---- changes spelled
 

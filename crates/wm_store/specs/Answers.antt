@@ -1,7 +1,6 @@
 -- What the faults of opening a store say of the file.
-use Rattle.std.specs.Prelude.{◌≡◌, ℕ, Bool, true, false, List, Result, Err}
+use Rattle.std.specs.Prelude.{◌≡◌, ℕ, true, false, List, Result, Err}
 use Rattle.wm_base.specs.declared.fault.Damage.{Damage}
-use Rattle.wm_base.specs.declared.fault.Damage.TheVariants as damages
 use Rattle.wm_base.specs.declared.fault.OpenFault.{OpenFault}
 use Rattle.wm_base.specs.declared.fault.OpenFault.TheVariants as faults
 use Rattle.wm_journal.specs.Disk.{is_made}
@@ -13,13 +12,6 @@ SaysOf faults.Disk file = Unit {0}
 SaysOf faults.NotStore file = is_made file ≡ false
 SaysOf (faults.Damaged p kind) file = (is_made file ≡ true) × (opened file ≡ Err (p, kind))
 SaysOf faults.Memory file = Unit {0}
-
--- where only a slot can be found whose bytes are no record
-abbrev pub FindsUnread : OpenFault → ℕ → Bool → Type 0
-FindsUnread faults.Disk page are = ⊥
-FindsUnread faults.NotStore page are = ⊥
-FindsUnread (faults.Damaged p kind) page are = (p ≡ page) × (kind ≡ damages.Record) × (are ≡ false)
-FindsUnread faults.Memory page are = Unit {0}
 
 -- damage is what the pages say when they are opened
 abbrev pub FindsIn : {A : Type 0} → OpenFault → Result A (ℕ × Damage) → Type 0

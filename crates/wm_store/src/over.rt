@@ -13,7 +13,7 @@ ghost use Rattle.wm_heap.specs.Plan.{IsPlan, IsChanged, PutsFew};
 ghost use Rattle.wm_store.specs.Answers.{FindsIn};
 ghost use Rattle.wm_store.specs.Opened.{pages_opened};
 
-use crate::records::read_records;
+use crate::records::load_pages;
 use crate::station_pages::{StationPages, whole_pages};
 use std::alloc::Global;
 use wm_base::{Bytes, OpenFault, StoreFault};
@@ -49,9 +49,7 @@ pub fn load_over<P: Station>(
         count,
         whole,
     };
-    let heap = Heap::load(alloc, &mut pages)?;
-    let records = read_records(alloc, &mut pages)?;
-    Ok((heap, records))
+    load_pages(alloc, &mut pages)
 }
 
 /// The pages that change the heap of a store with so many pages, whose station is at rest.

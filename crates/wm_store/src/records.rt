@@ -1,19 +1,19 @@
 //! The records of a store, read from its pages.
-ghost use Rattle.std.specs.Prelude.{◌≡◌, ℕ, ◌-◌, ◌<◌, ◌≤◌, ◌++◌, true, if◌then◌else◌, Some, None, is_some, IfOk, IfErr, OnOk, IsErrOf};
+ghost use Rattle.std.specs.Prelude.{◌≡◌, ◌≤◌, [], ◌++◌, true, if◌then◌else◌, Some, None, Ok, IfOk, IfErr, OnOk, IsErrOf};
+ghost use Rattle.std.specs.Option.{option_map, option_or};
 ghost use Rattle.wm_base.specs.declared.fault.Damage.TheVariants as damages;
 ghost use Rattle.wm_base.specs.declared.fault.OpenFault.TheVariants as faults;
 ghost use Rattle.wm_codec.specs.Reading.{record_of};
 ghost use Rattle.wm_page.specs.Cause.{OpenCause};
 ghost use Rattle.wm_heap.specs.Asking.{Finds};
-ghost use Rattle.wm_heap.specs.Content.{slots_in, content};
-ghost use Rattle.wm_heap.specs.Slots.{slots_of};
-ghost use Rattle.wm_store.specs.Answers.{FindsUnread};
-ghost use Rattle.wm_store.specs.Opened.{are_records, records_in, unread_in};
+ghost use Rattle.wm_heap.specs.Places.{IsHeapOf};
+ghost use Rattle.wm_store.specs.Answers.{FindsIn};
+ghost use Rattle.wm_store.specs.Opened.{are_records, pages_opened, records_in};
 
 use std::alloc::Global;
-use wm_base::{Damage, Memory, OpenFault, StoreFault};
+use wm_base::{Damage, Memory, OpenFault};
 use wm_codec::decode;
-use wm_heap::{Slot, Slots, stored_slots};
+use wm_heap::{Heap, Slot};
 use wm_page::Pages;
 use wm_spec::record::{Record, Records, Stored};
 
@@ -25,71 +25,82 @@ pub fn record_in(alloc: Global, bytes: &[u8]) -> Result<Option<Record>, Memory>
     Ok(found)
 }
 
-/// Puts the records of the slots behind those that are there.
-fn read_slots(
-    alloc: Global,
-    records: &mut Records,
-    page: u64,
-    slots: &[Slot],
-) -> Result<(), OpenFault>
-    ensures are { OnOk result (are_records slots.now ≡ true) }
-    ensures read { OnOk result (records.new ≡ records.old ++ records_in slots.now) }
-    ensures fault { IfErr result (λ e. FindsUnread e page (are_records slots.now)) }
+/// Puts the records of the slots behind those that are there, up to one whose bytes are none, and tells whether each
+/// slot has one.
+fn read_slots(alloc: Global, records: &mut Records, slots: &[Slot]) -> Result<bool, Memory>
+    ensures are { IfOk result (λ are. are ≡ are_records slots.now) }
+    ensures read { IfOk result (λ are. are ≡ true → records.new ≡ records.old ++ records_in slots.now) }
 {
     for slot in slots {
         let Some(record) = record_in(alloc, slot.bytes.as_slice())? else {
-            return Err(OpenFault::Damaged {
-                page,
-                kind: Damage::Record,
-            });
+            return Ok(false);
         };
         records.push(Stored {
             id: slot.id,
             record,
         })?;
     }
-    Ok(())
+    Ok(true)
 }
 
-/// The slots of a page that was found to have some.
-fn slots_again<G: Pages>(alloc: Global, pages: &mut G, page: u64) -> Result<Slots, OpenFault>
-    requires in_use { page < G.in_use pages.old }
-    requires in_file { page < G.in_file pages.old }
-    requires there { G.tells → is_some (slots_of (G.held pages.old page)) ≡ true }
-    ensures slots { G.tells → IfOk result (λ slots. slots ≡ slots_in (G.held pages.old) page) }
-    ensures fault { G.tells → IfErr result (λ e. Finds e None) }
-    ensures store { IsErrOf result faults.NotStore → ⊥ }
-    ensures told { G.tells → G.held pages.new ≡ G.held pages.old }
-    ensures past { G.tells → G.past pages.new ≡ G.past pages.old }
-    ensures source { G.source pages.new ≡ G.source pages.old }
-    ensures in_use { G.in_use pages.new ≡ G.in_use pages.old }
-    ensures in_file { G.in_file pages.new ≡ G.in_file pages.old }
-    ensures cause { OpenCause (G.faults pages.old) (G.faults pages.new) result }
-{
-    match stored_slots(alloc, pages, page) {
-        Ok(slots) => Ok(slots),
-        Err(StoreFault::Disk) => Err(OpenFault::Disk),
-        Err(StoreFault::Memory) => Err(OpenFault::Memory),
-        Err(StoreFault::Changed) => Err(OpenFault::Damaged {
-            page,
-            kind: Damage::Record,
-        }),
+/// The records of the pages that were read so far, as long as each slot has one.
+#[derive(Drop)]
+struct RecordReader {
+    records: Records,
+    /// The first page with a slot whose bytes are no record.
+    unread: Option<u64>,
+}
+
+impl RecordReader {
+    /// Nothing was read.
+    fn new(alloc: Global) -> RecordReader
+        ensures records { result.records ≡ [] }
+        ensures unread { result.unread ≡ None }
+    {
+        RecordReader {
+            records: Records::new(alloc),
+            unread: None,
+        }
+    }
+
+    /// Puts the records of a page behind those that are there, unless an earlier page has a slot without one.
+    fn read(&mut self, alloc: Global, page: u64, slots: &[Slot]) -> Result<(), Memory>
+        ensures unread { OnOk result (self.new.unread ≡ option_or self.old.unread (if are_records slots.now then None else Some page)) }
+        ensures read { OnOk result (self.new.unread ≡ None → self.new.records ≡ self.old.records ++ records_in slots.now) }
+    {
+        if self.unread.is_some() {
+            return Ok(());
+        }
+        if !read_slots(alloc, &mut self.records, slots)? {
+            self.unread = Some(page);
+        }
+        Ok(())
+    }
+
+    /// The records, or else the damage.
+    fn finish(self) -> Result<Records, OpenFault>
+        ensures records { IfOk result (λ records. (self.unread ≡ None) × (records ≡ self.records)) }
+        ensures damage { IfErr result (λ e. Finds e (option_map (λ page. (page, damages.Record)) self.unread)) }
+        ensures store { IsErrOf result faults.NotStore → ⊥ }
+        ensures disk { IsErrOf result faults.Disk → ⊥ }
+    {
+        match self.unread {
+            None => Ok(self.records),
+            Some(page) => Err(OpenFault::Damaged {
+                page,
+                kind: Damage::Record,
+            }),
+        }
     }
 }
 
-/// Puts the records of a page behind those that are there.
-fn read_page<G: Pages>(
-    alloc: Global,
-    records: &mut Records,
-    pages: &mut G,
-    page: u64,
-) -> Result<(), OpenFault>
-    requires in_use { page < G.in_use pages.old }
-    requires in_file { page < G.in_file pages.old }
-    requires there { G.tells → is_some (slots_of (G.held pages.old page)) ≡ true }
-    ensures are { G.tells → OnOk result (are_records (slots_in (G.held pages.old) page) ≡ true) }
-    ensures read { G.tells → OnOk result (records.new ≡ records.old ++ records_in (slots_in (G.held pages.old) page)) }
-    ensures fault { G.tells → IfErr result (λ e. Finds e (if are_records (slots_in (G.held pages.old) page) then None else Some (page, damages.Record))) }
+/// The heap and the records of the pages in use, each read once. Damage of a record is told where no page has other
+/// damage.
+pub fn load_pages<G: Pages>(alloc: Global, pages: &mut G) -> Result<(Heap, Records), OpenFault>
+    requires { 2 ≤ G.in_use pages.old }
+    ensures heap { G.tells → IfOk result (λ r. IsHeapOf r.0 (G.held pages.old) (G.in_use pages.old)) }
+    ensures records { G.tells → IfOk result (λ r. pages_opened (G.held pages.old) (G.in_use pages.old) (G.in_file pages.old) ≡ Ok r.1) }
+    ensures fault { G.tells → IfErr result (λ e. FindsIn e (pages_opened (G.held pages.old) (G.in_use pages.old) (G.in_file pages.old))) }
     ensures store { IsErrOf result faults.NotStore → ⊥ }
     ensures told { G.tells → G.held pages.new ≡ G.held pages.old }
     ensures past { G.tells → G.past pages.new ≡ G.past pages.old }
@@ -98,29 +109,12 @@ fn read_page<G: Pages>(
     ensures in_file { G.in_file pages.new ≡ G.in_file pages.old }
     ensures cause { OpenCause (G.faults pages.old) (G.faults pages.new) result }
 {
-    let slots = slots_again(alloc, pages, page)?;
-    read_slots(alloc, records, page, slots.as_slice())?;
-    Ok(())
-}
-
-/// The records of all pages in use, which were found to have slots.
-pub fn read_records<G: Pages>(alloc: Global, pages: &mut G) -> Result<Records, OpenFault>
-    requires in_file { (p : ℕ) → 2 ≤ p → p < G.in_use pages.old → p < G.in_file pages.old }
-    requires there { G.tells → (p : ℕ) → 2 ≤ p → p < G.in_use pages.old → is_some (slots_of (G.held pages.old p)) ≡ true }
-    ensures records { G.tells → IfOk result (λ records. records ≡ records_in (content (G.held pages.old) (G.in_use pages.old))) }
-    ensures none { G.tells → OnOk result (unread_in (slots_in (G.held pages.old)) (G.in_use pages.old - 2) ≡ None) }
-    ensures fault { G.tells → IfErr result (λ e. Finds e (unread_in (slots_in (G.held pages.old)) (G.in_use pages.old - 2))) }
-    ensures store { IsErrOf result faults.NotStore → ⊥ }
-    ensures told { G.tells → G.held pages.new ≡ G.held pages.old }
-    ensures past { G.tells → G.past pages.new ≡ G.past pages.old }
-    ensures source { G.source pages.new ≡ G.source pages.old }
-    ensures in_use { G.in_use pages.new ≡ G.in_use pages.old }
-    ensures in_file { G.in_file pages.new ≡ G.in_file pages.old }
-    ensures cause { OpenCause (G.faults pages.old) (G.faults pages.new) result }
-{
-    let mut records = Records::new(alloc);
+    let mut heap = Heap::new(alloc);
+    let mut reader = RecordReader::new(alloc);
     for page in 2..pages.count() {
-        read_page(alloc, &mut records, pages, page)?;
+        let slots = heap.load_page(alloc, pages)?;
+        reader.read(alloc, page, slots.as_slice())?;
     }
-    Ok(records)
+    let records = reader.finish()?;
+    Ok((heap, records))
 }

@@ -1,22 +1,24 @@
-use Rattle.std.proofs.lemmas.Result.{err_from_is_err_and}
-use Rattle.wm_station.specs.History.{now}
+use Rattle.std.proofs.Common.{◌≡◌, Ok, IfErr, IfOk, subst}
+use Rattle.wm_heap.specs.Places.{IsHeapOf}
 use Rattle.wm_journal.specs.Disk.{page}
-use Rattle.wm_store.proofs.Mending.{load_fault, read_fault_in, records_found, size_found}
+use Rattle.wm_station.specs.History.{now}
+use Rattle.wm_store.specs.Answers.{FindsIn}
+use Rattle.wm_store.proofs.Mending.{opened_at, size_found}
 use Rattle.wm_store.proofs.over.load_over.Goals as goal
 
-pub returns-in_err-heap-clause-fault : goal.returns-in_err-heap-clause-fault
-returns-in_err-heap-clause-fault g c = λ t.
-    let p = err_from_is_err_and c.from_residual.result c.from_residual.ensures.1 in
-    rw (p.1, p.2) (load_fault (g.P.Station.history c.args.station.now) (g.P.Station.history c.whole_pages.new.station) c.in_err-heap.field-0.0 c.args.count c.in-Ok.whole (c.in-Ok.ensures.told t) (c.in-Ok.ensures.whole t) (c.in_err-heap.ensures.fault t))
-
-pub returns-in_err-records-clause-fault : goal.returns-in_err-records-clause-fault
-returns-in_err-records-clause-fault g c = λ t.
-    let p = err_from_is_err_and c.from_residual-in_err-records.result c.from_residual-in_err-records.ensures.1 in
-    rw (p.1, p.2) (read_fault_in (g.P.Station.history c.args.station.now) (g.P.Station.history c.whole_pages.new.station) c.in_err-records.field-0.0 (page (now (g.P.Station.history c.load.new.pages.station.now))) c.args.count c.in-Ok.whole c.load.new.pages.count (c.in-Ok.ensures.told t) (c.in-Ok.ensures.whole t) (c.in_ok-heap.ensures.undamaged t) (c.in_ok-heap.ensures.told t) c.in_ok-heap.ensures.in_use (c.in_err-records.ensures.fault t))
+pub returns-clause-heap : goal.returns-clause-heap
+returns-clause-heap g c = λ t. subst (λ h. IfOk c.load_pages.result (λ r. IsHeapOf r.0 (page (now h)) c.args.count)) (c.in-Ok.ensures.told t) (c.load_pages.ensures.heap t)
 
 pub returns-clause-size : goal.returns-clause-size
-returns-clause-size g c = λ t. size_found (now (g.P.Station.history c.args.station.now)) c.args.count c.in-Ok.whole c.requires (c.in-Ok.ensures.whole t) c.in_ok-heap.ensures.whole
+returns-clause-size g c = λ t.
+    size_found c.load_pages.result (now (g.P.Station.history c.args.station.now)) c.args.count c.in-Ok.whole (page (now (g.P.Station.history c.whole_pages.new.station))) c.requires (c.in-Ok.ensures.whole t) (c.load_pages.ensures.records t)
 
 pub returns-clause-records : goal.returns-clause-records
 returns-clause-records g c = λ t.
-    records_found (g.P.Station.history c.args.station.now) (g.P.Station.history c.whole_pages.new.station) (page (now (g.P.Station.history c.load.new.pages.station.now))) c.args.count c.in-Ok.whole c.load.new.pages.count c.in_ok-records.records (c.in-Ok.ensures.told t) (c.in-Ok.ensures.whole t) (c.in_ok-heap.ensures.undamaged t) (c.in_ok-heap.ensures.told t) c.in_ok-heap.ensures.in_use (c.in_ok-records.ensures.none t) (c.in_ok-records.ensures.records t)
+    subst (λ opened. IfOk c.load_pages.result (λ r. opened ≡ Ok r.1)) (opened_at (g.P.Station.history c.args.station.now) (g.P.Station.history c.whole_pages.new.station) c.args.count c.in-Ok.whole (c.in-Ok.ensures.told t) (c.in-Ok.ensures.whole t))
+    (c.load_pages.ensures.records t)
+
+pub returns-clause-fault : goal.returns-clause-fault
+returns-clause-fault g c = λ t.
+    subst (λ opened. IfErr c.load_pages.result (λ e. FindsIn e opened)) (opened_at (g.P.Station.history c.args.station.now) (g.P.Station.history c.whole_pages.new.station) c.args.count c.in-Ok.whole (c.in-Ok.ensures.told t) (c.in-Ok.ensures.whole t))
+    (c.load_pages.ensures.fault t)
