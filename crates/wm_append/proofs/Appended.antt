@@ -1,6 +1,8 @@
 -- What is written where entries come into a workspace is a draft of it.
 use Rattle.std.proofs.Common.{◌≡◌, ℕ, ◌+◌, ◌≤◌, true, List, [], ◌∷◌, ◌++◌, map, length, slice_index_or, Option, Some, None, is_some, Bor, refl, sym, ap, subst, ◌∙◌}
 use Rattle.std.proofs.lemmas.List.{length-map}
+use Rattle.std.proofs.lemmas.Option.{same_Some}
+use Rattle.std.proofs.lemmas.Bool.{true≢false}
 use Rattle.std.specs.Option.{option_copied}
 use Rattle.std.specs.declared.alloc.Global.{Global}
 use Rattle.std.specs.declared.vec.Vec.{Vec}
@@ -30,7 +32,6 @@ use Rattle.wm_state.proofs.Growing.{same_counters}
 use Rattle.wm_written.proofs.Ids.{under_next}
 use Rattle.wm_state.proofs.Named.{space_number}
 use Rattle.wm_state.proofs.Settled.{Places}
-use Rattle.wm_state.proofs.Tests.{bool_apart}
 use Rattle.wm_state.specs.Entries.{AreStamped}
 use Rattle.wm_changes.proofs.Placed.{looked_up}
 use Rattle.wm_append.specs.Appending.{AreMade, AreWritten}
@@ -84,7 +85,7 @@ appends_own p a c es there can one = record {
 
 -- a workspace that is there
 pub found_there : (o : Option Space) → is_some o ≡ true → (a : Space) × (o ≡ Some a)
-found_there None none = absurd (bool_apart (sym none))
+found_there None none = absurd (true≢false (sym none))
 found_there (Some a) some = (a, refl)
 
 -- ---- what is written
@@ -96,12 +97,9 @@ written_places rs front counters c a longer id next dropped news changes one the
   sorted = w.sorted;
   counters = w.counters_at ∙ ap (λ (k : Counters). Some (records.Counters k)) (sym (same_counters (parts_of rs) w.old c w.one one));
   one = one;
-  space = w.space_at ∙ ap (λ (b : Space). Some (records.Space b)) (one_space w.was a (sym w.found ∙ ap (space_of (parts_of rs).spaces) same ∙ there));
+  space = w.space_at ∙ ap (λ (b : Space). Some (records.Space b)) (same_Some w.was a (sym w.found ∙ ap (space_of (parts_of rs).spaces) same ∙ there));
   under = under_next id rs above;
 }
-  where
-    one_space : (b d : Space) → Some b ≡ Some d → b ≡ d
-    one_space b d e = cc
 
 -- the batch is the one that writes the entries
 batch_is : (rs : List Stored) (front : List Change) (counters : Counters) (a longer : Space) (version next : ℕ) (es : List Entry) (dropped : List ℕ) (news : List Record) (changes : List Change) → longer ≡ longer_by (length es) a

@@ -1,5 +1,7 @@
 -- What drafts come to, told of results.
 use Rattle.std.proofs.Common.{◌≡◌, ℕ, ◌==◌, ◌&&◌, Bool, true, false, not, List, [], ◌∷◌, ◌++◌, append-nil, Option, None, Some, Result, Ok, Err, IfOk, refl, sym, ap, subst, ◌∙◌}
+use Rattle.std.proofs.Math.Bool.{and-false, not-not}
+use Rattle.std.proofs.lemmas.Option.{none-some}
 use Rattle.std.specs.List.{filter, flat_map}
 use Rattle.std.specs.Bool.{then_some}
 use Rattle.std.specs.Option.{option_map_or}
@@ -42,10 +44,7 @@ trace_placed n y table key x is = by_space (y.space == n) is
       where
         same : Some (as_drawn y) ≡ Some x → as_drawn y ≡ x
         same h = cc
-    by_space false e = absurd (none_some e)
-      where
-        none_some : (let none : Option PieceRecord = None in none) ≡ Some x → ⊥
-        none_some h = cc
+    by_space false e = absurd (none-some x e)
 
 turned : (a b : Bool) → (a && b) ≡ (b && a)
 turned true true = refl
@@ -69,37 +68,20 @@ layer_placed layers.Pieces version table key (records.Piece y) x is =
     once true false false = refl
     once false b true = refl
     once false b false = refl
-layer_placed layers.Pieces version table key _ x is = absurd (none_some is)
-  where
-    none_some : (let none : Option PieceRecord = None in none) ≡ Some x → ⊥
-    none_some e = cc
+layer_placed layers.Pieces version table key _ x is = absurd (none-some x is)
 layer_placed (layers.Touches n) version table key (records.Touch y) x is =
     turned ((y.cells.table == table) && is_eq (key_order y.cells.key key)) (x.version == version) ∙ ap (λ b. (x.version == version) && b) (trace_placed n y table key x is)
-layer_placed (layers.Touches n) version table key _ x is = absurd (none_some is)
-  where
-    none_some : (let none : Option PieceRecord = None in none) ≡ Some x → ⊥
-    none_some e = cc
+layer_placed (layers.Touches n) version table key _ x is = absurd (none-some x is)
 layer_placed (layers.Marks n) version table key (records.Mark y) x is =
     turned ((y.cells.table == table) && is_eq (key_order y.cells.key key)) (x.version == version) ∙ ap (λ b. (x.version == version) && b) (trace_placed n y table key x is)
-layer_placed (layers.Marks n) version table key _ x is = absurd (none_some is)
-  where
-    none_some : (let none : Option PieceRecord = None in none) ≡ Some x → ⊥
-    none_some e = cc
+layer_placed (layers.Marks n) version table key _ x is = absurd (none-some x is)
 
 own_test : (view : View) (q : Sought) (version table : ℕ) (key : List Value) → IsPlaced view q version table key → (r : Record) → not (keeps_in view (is_out version table key) r) ≡ (is_sought q r && has_version view version (Some r))
 own_test view q version table key placed r = by_view (view r) refl
   where
-    none_of : (b : Bool) → false ≡ (b && false)
-    none_of true = refl
-    none_of false = refl
-
-    twice : (b : Bool) → not (not b) ≡ b
-    twice true = refl
-    twice false = refl
-
     by_view : (o : Option PieceRecord) → view r ≡ o → not (option_map_or (is_out version table key) o true) ≡ (is_sought q r && option_map_or (λ (x : PieceRecord). x.version == version) o false)
-    by_view None none = none_of (is_sought q r)
-    by_view (Some x) some = twice ((x.version == version) && ((x.cells.table == table) && is_eq (key_order x.cells.key key))) ∙ sym (placed r x some)
+    by_view None none = sym (and-false (is_sought q r))
+    by_view (Some x) some = not-not ((x.version == version) && ((x.cells.table == table) && is_eq (key_order x.cells.key key))) ∙ sym (placed r x some)
 
 pub ids_told : (ss : List Stored) → Ascend ss → (layer : Layer) (version table : ℕ) (key : List Value) (ids own : List ℕ) → ids ≡ ids_with (is_sought (sought_in layer version table key)) ss
     → own ≡ filter (λ id. has_version (view_of layer) version (record_at ss id)) ids → own ≡ ids_of_key (view_of layer) ss version table key

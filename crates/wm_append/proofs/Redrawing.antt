@@ -1,6 +1,6 @@
 -- What is drawn, one table and key after another.
 use Rattle.std.proofs.Common.{◌≡◌, ◌≢◌, ℕ, ◌==◌, Bool, true, false, cond, not, ◌&&◌, ◌||◌, if◌then◌else◌, List, [], ◌∷◌, ◌++◌, append_assoc, append-nil, Option, Some, None, is_some, refl, sym, ap, subst, ◌∙◌, ◌⊎◌, inl, inr, arith}
-use Rattle.std.proofs.lemmas.Bool.{cases_eq, eq-eqb, eqb-true}
+use Rattle.std.proofs.lemmas.Bool.{cases_eq, eq-eqb, eqb-true, and_from, and_parts, not-true, true≢false}
 use Rattle.std.proofs.lemmas.Bool.Decides.{nat_tests}
 use Rattle.std.proofs.lemmas.Cmp.{nat_cmp_total, on_total, then_total}
 use Rattle.std.specs.Cmp.{IsTotalOrder}
@@ -25,7 +25,7 @@ use Rattle.wm_state.proofs.Appending.{all_append}
 use Rattle.wm_written.proofs.Drawing.{drawn-nothing}
 use Rattle.wm_written.proofs.DrawingTouched.{drawn-keys, drawn-touched, is_met_by, touched-either, touched-more}
 use Rattle.wm_state.proofs.Laying.{key_itself, key_same}
-use Rattle.wm_state.proofs.Tests.{both, bool_apart, and_true, all_if, all_push, not_true}
+use Rattle.wm_state.proofs.Tests.{all_if, all_push}
 use Rattle.wm_written.proofs.Touched.{clear-append, met-place, touched-passes}
 use Rattle.wm_changes.proofs.Dropping.{told-with, differ-with, filter-with}
 use Rattle.wm_changes.proofs.DroppingAll.{differ-append, dropped-append, there-with, there_all}
@@ -41,13 +41,13 @@ use Rattle.wm_index.specs.Sought.{ids_with}
 
 lt_not_eq : (o : Ordering) → is_lt o ≡ true → is_eq o ≡ false
 lt_not_eq Less e = refl
-lt_not_eq Equal e = absurd (bool_apart (sym e))
-lt_not_eq Greater e = absurd (bool_apart (sym e))
+lt_not_eq Equal e = absurd (true≢false (sym e))
+lt_not_eq Greater e = absurd (true≢false (sym e))
 
 less : (o : Ordering) → is_lt o ≡ true → o ≡ Less
 less Less e = refl
-less Equal e = absurd (bool_apart (sym e))
-less Greater e = absurd (bool_apart (sym e))
+less Equal e = absurd (true≢false (sym e))
+less Greater e = absurd (true≢false (sym e))
 
 pub spot_total : IsTotalOrder spot_order
 spot_total = then_total (on_total (λ (c : CellRange). c.table) nat_cmp_total) (on_total (λ (c : CellRange). c.key) key_order_total)
@@ -65,7 +65,7 @@ spot_same a b = by_table a.table b.table (key_order a.key b.key)
 -- and so are their table and key
 spot_parts : (a b : CellRange) → is_eq (spot_order a b) ≡ true → (a.table ≡ b.table) × (a.key ≡ b.key)
 spot_parts a b at =
-    let h = both (a.table == b.table) (is_eq (key_order a.key b.key)) (sym (spot_same a b) ∙ at) in
+    let h = and_parts (a.table == b.table) (is_eq (key_order a.key b.key)) (sym (spot_same a b) ∙ at) in
     (eqb-true a.table b.table h.0, key_same a.key b.key h.1)
 
 -- a piece of a table and key below is not of this one
@@ -80,8 +80,8 @@ below_out version table key x lt = away (x.version == version) _ (sym (spot_same
 
 -- an id that goes has a record
 pub dropped_there : (ss : List Stored) (ids : List ℕ) (id : ℕ) → list_all (λ k. is_some (record_at ss k)) ids ≡ true → is_dropped ids id ≡ true → is_some (record_at ss id) ≡ true
-dropped_there ss [] id there is = absurd (bool_apart (sym is))
-dropped_there ss (k ∷ ks) id there is = let h = both (is_some (record_at ss k)) (list_all (λ j. is_some (record_at ss j)) ks) there in by_first (k == id) refl h.0 is (dropped_there ss ks id h.1)
+dropped_there ss [] id there is = absurd (true≢false (sym is))
+dropped_there ss (k ∷ ks) id there is = let h = and_parts (is_some (record_at ss k)) (list_all (λ j. is_some (record_at ss j)) ks) there in by_first (k == id) refl h.0 is (dropped_there ss ks id h.1)
   where
     by_first : (b : Bool) → (k == id) ≡ b → is_some (record_at ss k) ≡ true → (b || is_dropped ks id) ≡ true → (is_dropped ks id ≡ true → is_some (record_at ss id) ≡ true) → is_some (record_at ss id) ≡ true
     by_first true same own told rest = ap (λ (j : ℕ). is_some (record_at ss j)) (sym (eqb-true k id same)) ∙ own
@@ -103,12 +103,12 @@ goes_once view version table key before own r outside inside = by_view (view r)
     by_test : (x : PieceRecord) → is_clear before x ≡ false → (b : Bool) → is_clear own x ≡ b → not b ≡ false
     by_test x gone true clear = refl
     by_test x gone false reached =
-        absurd (bool_apart (sym (touched-passes (is_out version table key) (λ n y hit is. ap not (met-place n y hit version table key) ∙ is) before outside x gone)
+        absurd (true≢false (sym (touched-passes (is_out version table key) (λ n y hit is. ap not (met-place n y hit version table key) ∙ is) before outside x gone)
         ∙ ap not (touched-passes (is_in version table key) (λ n y hit is. met-place n y hit version table key ∙ is) own inside x reached)))
 
     by_view : (o : Option PieceRecord) → not (option_map_or (is_clear before) o true) ≡ true → not (option_map_or (is_clear own) o true) ≡ false
-    by_view None goes = absurd (bool_apart (sym goes))
-    by_view (Some x) goes = by_test x (not_true (is_clear before x) goes) (is_clear own x) refl
+    by_view None goes = absurd (true≢false (sym goes))
+    by_view (Some x) goes = by_test x (not-true (is_clear before x) goes) (is_clear own x) refl
 
 settled_so : (view : View) (ss : List Stored) (version table : ℕ) (key : List Value) (before own : List PieceRecord) (gone going : List ℕ) (finished hand : List PieceRecord) → differ collide (drawn_in view ss) ≡ true → IsRedrawn view ss before gone finished
     → IsRedrawn view ss own going hand → list_all (is_out version table key) before ≡ true → list_all (is_in version table key) own ≡ true → IsRedrawn view ss (before ++ own) (gone ++ going) (finished ++ hand)
@@ -124,7 +124,7 @@ settled_so view ss version table key before own gone going finished hand apart s
 }
   where
     by_record : (id : ℕ) → is_dropped gone id ≡ true → (o : Option Record) → record_at ss id ≡ o → is_some (record_at ss id) ≡ true → is_dropped going id ≡ false
-    by_record id is None none some = absurd (bool_apart (sym some ∙ ap is_some none))
+    by_record id is None none some = absurd (true≢false (sym some ∙ ap is_some none))
     by_record id is (Some r) found some = drawn.gone id r found ∙ goes_once view version table key before own r outside inside (sym (settled.gone id r found) ∙ is)
 
 settle : (view : View) (ss : List Stored) (version table : ℕ) (key : List Value) (news : List PieceRecord) (dropped left : List ℕ) (finished hand : List PieceRecord) → differ collide (drawn_in view ss) ≡ true
@@ -193,8 +193,8 @@ begin view ss version table key news gone dropped left finished hand settled bel
 -- a piece of the version is of its own table and key
 its_own : (version : ℕ) (new : PieceRecord) → is_of_version version new ≡ true → is_in version new.cells.table new.cells.key new ≡ true
 its_own version new here =
-    and_true (new.version == version) ((new.cells.table == new.cells.table) && is_eq (key_order new.cells.key new.cells.key)) here
-    (and_true (new.cells.table == new.cells.table) (is_eq (key_order new.cells.key new.cells.key)) (eq-eqb new.cells.table new.cells.table refl) (key_itself new.cells.key))
+    and_from (new.version == version) ((new.cells.table == new.cells.table) && is_eq (key_order new.cells.key new.cells.key)) here
+    (and_from (new.cells.table == new.cells.table) (is_eq (key_order new.cells.key new.cells.key)) (eq-eqb new.cells.table new.cells.table refl) (key_itself new.cells.key))
 
 -- the record is drawn as a piece that the new one is the first to touch
 abbrev is_first : View → List PieceRecord → PieceRecord → Record → Bool
@@ -207,7 +207,7 @@ met_are view ss version table key own new sorted inside = filter-with (is_touche
   where
     of_key : (i a c : Bool) → (c ≡ true → i ≡ true) → (a && c) ≡ ((i && a) && c)
     of_key true a c so = refl
-    of_key false a true so = absurd (bool_apart (sym (so refl)))
+    of_key false a true so = absurd (true≢false (sym (so refl)))
     of_key false true false so = refl
     of_key false false false so = refl
 
@@ -250,7 +250,7 @@ goes_before view own new r = by_view (view r)
   where
     by_view : (o : Option PieceRecord) → not (option_map_or (is_clear own) o true) ≡ true → option_map_or (is_met_by own new) o false ≡ false
     by_view None goes = refl
-    by_view (Some x) goes = ap (λ b. b && collide new x) (not_true (is_clear own x) goes)
+    by_view (Some x) goes = ap (λ b. b && collide new x) (not-true (is_clear own x) goes)
 
 drawn_more : (view : View) (ss : List Stored) (own : List PieceRecord) (going : List ℕ) (hand : List PieceRecord) (new : PieceRecord) → Ascend ss → differ collide (drawn_in view ss) ≡ true → has_moments new ≡ true → IsRedrawn view ss own going hand
     → IsRedrawn view ss (own ++ new ∷ []) (going ++ ids_with (is_first view own new) ss) (new ∷ flat_map (left_by new) (hand ++ filter (is_met_by own new) (drawn_in view ss)))
@@ -306,7 +306,7 @@ draft_ends view ss version news dropped left finished (x ∷ xs) apart a = settl
 pub draft_on : (view : View) (ss : List Stored) (version : ℕ) (news : List PieceRecord) (dropped left : List ℕ) (finished hand : List PieceRecord) (new : PieceRecord) → Ascend ss → differ collide (drawn_in view ss) ≡ true
     → is_of_version version new ≡ true → has_moments new ≡ true → is_at_hand hand new.cells ≡ true → IsDraft view ss version news dropped left finished hand
     → IsDraft view ss version (news ++ new ∷ []) (dropped ++ met view ss new left) (unmet view ss new left) finished (new ∷ flat_map (left_by new) (hand ++ kind_at view ss (met view ss new left)))
-draft_on view ss version news dropped left finished [] new sorted apart here lasts at so = absurd (bool_apart (sym at))
+draft_on view ss version news dropped left finished [] new sorted apart here lasts at so = absurd (true≢false (sym at))
 draft_on view ss version news dropped left finished (x ∷ xs) new sorted apart here lasts at so =
     let same = spot_parts x.cells new.cells at in
     go_on view ss version new.cells.table new.cells.key news dropped left finished (x ∷ xs) new sorted apart (its_own version new here) lasts
@@ -325,16 +325,16 @@ all_below view ss version news dropped left finished (x ∷ xs) new at up a =
   where
     below_if : (o : Ordering) → is_eq o ≡ false → (not (is_gt o) && true) ≡ true → is_lt o ≡ true
     below_if Less e f = refl
-    below_if Equal e f = absurd (bool_apart e)
-    below_if Greater e f = absurd (bool_apart (sym f))
+    below_if Equal e f = absurd (true≢false e)
+    below_if Greater e f = absurd (true≢false (sym f))
 
     rises : is_lt (spot_order x.cells new.cells) ≡ true
     rises = below_if (spot_order x.cells new.cells) at up
 
     at_key : (y : PieceRecord) → is_in version x.cells.table x.cells.key y ≡ true → is_lt (spot_order y.cells new.cells) ≡ true
     at_key y inside =
-        let h = both (y.version == version) ((y.cells.table == x.cells.table) && is_eq (key_order y.cells.key x.cells.key)) inside in
-        let k = both (y.cells.table == x.cells.table) (is_eq (key_order y.cells.key x.cells.key)) h.1 in
+        let h = and_parts (y.version == version) ((y.cells.table == x.cells.table) && is_eq (key_order y.cells.key x.cells.key)) inside in
+        let k = and_parts (y.cells.table == x.cells.table) (is_eq (key_order y.cells.key x.cells.key)) h.1 in
         ap (λ (t : ℕ). is_lt (spot_order (spot t y.cells.key) new.cells)) (eqb-true y.cells.table x.cells.table k.0)
         ∙ ap (λ (j : List Value). is_lt (spot_order (spot x.cells.table j) new.cells)) (key_same y.cells.key x.cells.key k.1)
         ∙ rises

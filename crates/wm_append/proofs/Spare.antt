@@ -1,5 +1,6 @@
 -- Versions that are spare by their records: none stands under them, and nothing names them.
 use Rattle.std.proofs.Common.{◌≡◌, ℕ, ◌<◌, ◌==◌, nat_lt, Bool, true, false, not, ◌&&◌, ◌||◌, cond, List, [], ◌∷◌, Some, refl, sym, ap, ◌∙◌, arith}
+use Rattle.std.proofs.lemmas.Bool.{and_from, and_parts, not-true, true≢false, eq-eqb}
 use Rattle.std.specs.List.{find, list_any}
 use Rattle.wm_graph.specs.Parts.{Parts, space_of}
 use Rattle.wm_graph.specs.Rules.{differ, keep_rules}
@@ -11,7 +12,7 @@ use Rattle.wm_tree.specs.declared.version.Version.{Version as Node}
 use Rattle.wm_state.specs.Effects.{IsFree, IsLeaf}
 use Rattle.wm_state.specs.Standing.{newest_first, node_of}
 use Rattle.wm_state.proofs.Apart.{ruled}
-use Rattle.wm_state.proofs.Tests.{and_true, bool_apart, both, found_fails, not_true}
+use Rattle.wm_state.proofs.Mapped.{found-fails}
 use Rattle.wm_written.proofs.Leaves.{leaf_of}
 use Rattle.wm_image.specs.Shown.{names, rests_on}
 
@@ -32,7 +33,7 @@ leaf_back version (v ∷ vs) leaf = let h = grow_back version (node_of v) (newes
 
 -- a version that is the parent of no record is a leaf
 pub leaf_so : (p : Parts) (version : ℕ) (leaf : Bool) → leaf ≡ not (list_any (λ (x : Version). x.parent == version) p.versions) → leaf ≡ true → IsLeaf version (newest_first p.versions)
-leaf_so p version leaf is holds = leaf_of version p.versions (not_true (list_any (λ (x : Version). x.parent == version) p.versions) (sym is ∙ holds))
+leaf_so p version leaf is holds = leaf_of version p.versions (not-true (list_any (λ (x : Version). x.parent == version) p.versions) (sym is ∙ holds))
 
 -- ---- what names one
 
@@ -40,16 +41,13 @@ leaf_so p version leaf is holds = leaf_of version p.versions (not_true (list_any
 none_each : {A : Type 0} (P same : A → A → Bool) (Q : A → Bool) → ((x : A) → P x x ≡ true) → ((x y : A) → P y x ≡ true → same x y ≡ true) → (xs : List A) → differ same xs ≡ true → ((x : A) → find (P x) xs ≡ Some x → Q x ≡ false) → list_any Q xs ≡ false
 none_each P same Q itself like [] apart each = refl
 none_each {A = A} P same Q itself like (x ∷ xs) apart each =
-    let h = both (not (list_any (same x) xs)) (differ same xs) apart in
+    let h = and_parts (not (list_any (same x) xs)) (differ same xs) apart in
     rw (each x (ap (λ b. cond b (Some x) (find (P x) xs)) (itself x)))
-    (none_each P same Q itself like xs h.1 (λ y found. each y (later y found (not_true (list_any (same x) xs) h.0) (P y x) refl)))
+    (none_each P same Q itself like xs h.1 (λ y found. each y (later y found (not-true (list_any (same x) xs) h.0) (P y x) refl)))
   where
     later : (y : A) → find (P y) xs ≡ Some y → list_any (same x) xs ≡ false → (b : Bool) → P y x ≡ b → find (P y) (x ∷ xs) ≡ Some y
-    later y found none true is = absurd (bool_apart (sym (like x y is) ∙ found_fails (P y) (same x) xs y found none))
+    later y found none true is = absurd (true≢false (sym (like x y is) ∙ found-fails (P y) (same x) xs y found none))
     later y found none false is = ap (λ b. cond b (Some x) (find (P y) xs)) is ∙ found
-
-same_nat : (n : ℕ) → (n == n) ≡ true
-same_nat n = grind arith
 
 above_zero : (n : ℕ) → (n == 0) ≡ false → 0 < n
 above_zero n away = grind (arith, away)
@@ -58,13 +56,13 @@ above_zero n away = grind (arith, away)
 none_saved : (p : Parts) (Q : Savepoint → Bool) → keep_rules p ≡ true → ((x : Savepoint) → find (λ (y : Savepoint). (y.space == x.space) && (y.making == x.making)) p.savepoints ≡ Some x → Q x ≡ false) → list_any Q p.savepoints ≡ false
 none_saved p Q rules each =
     none_each (λ x y. (y.space == x.space) && (y.making == x.making)) (λ (x y : Savepoint). x.making == y.making) Q
-    (λ x. and_true (x.space == x.space) (x.making == x.making) (same_nat x.space) (same_nat x.making))
-    (λ x y is. (both (x.space == y.space) (x.making == y.making) is).1) p.savepoints (both (differ (λ (x y : Savepoint). x.making == y.making) p.savepoints) _ (ruled p rules).savepoints).0 each
+    (λ x. and_from (x.space == x.space) (x.making == x.making) (eq-eqb x.space x.space refl) (eq-eqb x.making x.making refl))
+    (λ x y is. (and_parts (x.space == y.space) (x.making == y.making) is).1) p.savepoints (and_parts (differ (λ (x y : Savepoint). x.making == y.making) p.savepoints) _ (ruled p rules).savepoints).0 each
 
 none_spaced : (p : Parts) (Q : Space → Bool) → keep_rules p ≡ true → ((r : Space) → space_of p.spaces r.number ≡ Some r → Q r ≡ false) → list_any Q p.spaces ≡ false
 none_spaced p Q rules each =
-    none_each (λ x y. y.number == x.number) (λ (s t : Space). s.number == t.number) Q (λ r. same_nat r.number) (λ x y is. is) p.spaces
-    (both (differ (λ (s t : Space). s.number == t.number) p.spaces) _ (both _ _ (ruled p rules).spaces).1).0 each
+    none_each (λ x y. y.number == x.number) (λ (s t : Space). s.number == t.number) Q (λ r. eq-eqb r.number r.number refl) (λ x y is. is) p.spaces
+    (and_parts (differ (λ (s t : Space). s.number == t.number) p.spaces) _ (and_parts _ _ (ruled p rules).spaces).1).0 each
 
 -- by its records nothing names a version that is free
 record Unnamed (p : Parts) (version : ℕ) : Type 0 where
@@ -91,10 +89,10 @@ free_back p version rules free = record {
 
 -- one under which a record stands is none
 pub leaf_used : (p : Parts) (version : ℕ) (leaf : Bool) → leaf ≡ not (list_any (λ (x : Version). x.parent == version) p.versions) → leaf ≡ false → IsLeaf version (newest_first p.versions) × IsFree p version → ⊥
-leaf_used p version leaf is used spare = bool_apart (sym (is ∙ ap not (leaf_back version p.versions spare.0)) ∙ used)
+leaf_used p version leaf is used spare = true≢false (sym (is ∙ ap not (leaf_back version p.versions spare.0)) ∙ used)
 
 -- nor one that a record names
 pub free_used : (p : Parts) (version : ℕ) (free : Bool) → keep_rules p ≡ true
     → free ≡ not (list_any (λ (x : Savepoint). x.version == version) p.savepoints || (list_any (rests_on version) p.savepoints || list_any (names version) p.spaces)) → free ≡ false
     → IsLeaf version (newest_first p.versions) × IsFree p version → ⊥
-free_used p version free rules is used spare = let none = free_back p version rules spare.1 in bool_apart (sym (is ∙ rw (none.kept, none.rested, none.named) refl) ∙ used)
+free_used p version free rules is used spare = let none = free_back p version rules spare.1 in true≢false (sym (is ∙ rw (none.kept, none.rested, none.named) refl) ∙ used)

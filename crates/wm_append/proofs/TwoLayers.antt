@@ -1,5 +1,7 @@
 -- What goes and what comes of both layers: the pieces of a version, and the touches of a workspace.
-use Rattle.std.proofs.Common.{◌≡◌, ℕ, Bool, true, false, not, ◌||◌, List, [], ◌∷◌, ◌++◌, Option, Some, None, is_some, refl, sym, ap, ◌∙◌}
+use Rattle.std.proofs.Common.{◌≡◌, ℕ, true, false, not, ◌||◌, List, [], ◌∷◌, ◌++◌, Option, Some, None, is_some, refl, sym, ap, ◌∙◌}
+use Rattle.std.proofs.lemmas.Bool.{and_parts, true≢false}
+use Rattle.std.proofs.Math.Bool.{or-false}
 use Rattle.std.specs.List.{filter_map, list_all}
 use Rattle.wm_graph.specs.Parts.{Parts, as_piece, as_touch, parts_of, row_of, space_of, table_of, version_of}
 use Rattle.wm_graph.specs.Rules.{collide, differ, is_piece, is_touch, keep_rules, meet}
@@ -10,7 +12,6 @@ use Rattle.wm_spec.specs.declared.record.piece.PieceRecord.{PieceRecord}
 use Rattle.wm_spec.specs.declared.record.stored.Stored.{Stored}
 use Rattle.wm_state.proofs.Apart.{ruled}
 use Rattle.wm_state.proofs.Appending.{all_append}
-use Rattle.wm_state.proofs.Tests.{bool_apart, both}
 use Rattle.wm_state.specs.Batches.{AreDropped, is_dropped}
 use Rattle.wm_state.specs.Drawing.{is_clear}
 use Rattle.wm_state.specs.Touching.{drawn_all, drawn_as, is_unmet}
@@ -44,30 +45,26 @@ pieces_apart ss rules =
     let p : Parts = parts_of ss in
     let r = ruled p rules in
     ap (λ (xs : List PieceRecord). differ collide xs) (pieces_seen ss)
-    ∙ (both (differ collide p.pieces) (list_all (is_piece (table_of p.tables) (version_of p.versions) (row_of p.rows) r.counters.next_stamp) p.pieces) r.pieces).0
+    ∙ (and_parts (differ collide p.pieces) (list_all (is_piece (table_of p.tables) (version_of p.versions) (row_of p.rows) r.counters.next_stamp) p.pieces) r.pieces).0
 
 pub touches_apart : (n : ℕ) (ss : List Stored) → keep_rules (parts_of ss) ≡ true → differ collide (drawn_in (touch_in n) ss) ≡ true
 touches_apart n ss rules =
     let p : Parts = parts_of ss in
     let r = ruled p rules in
     ap (λ (xs : List PieceRecord). differ collide xs) (touches_seen n ss)
-    ∙ view-apart n p.touches (both (differ meet p.touches) (list_all (is_touch (table_of p.tables) (space_of p.spaces)) p.touches) r.touches).0
+    ∙ view-apart n p.touches (and_parts (differ meet p.touches) (list_all (is_touch (table_of p.tables) (space_of p.spaces)) p.touches) r.touches).0
 
 -- ---- the ids that go
 
 -- a record that goes is drawn as a piece in one layer alone
 alone : (n : ℕ) (news marks : List PieceRecord) (r : Record) → not (keeps_in as_piece (is_clear news) r) ≡ true → not (keeps_in (touch_in n) (is_clear marks) r) ≡ false
 alone n news marks (records.Piece x) goes = refl
-alone n news marks _ goes = absurd (bool_apart (sym goes))
+alone n news marks _ goes = absurd (true≢false (sym goes))
 
 -- and both say of it what the two tests together do
 both_say : (n : ℕ) (news marks : List PieceRecord) (r : Record)
     → (not (keeps_in as_piece (is_clear news) r) || not (keeps_in (touch_in n) (is_clear marks) r)) ≡ not (keeps_both (is_clear news) (is_unmet n marks) r)
-both_say n news marks (records.Piece x) = or_none (not (is_clear news x))
-  where
-    or_none : (b : Bool) → (b || false) ≡ b
-    or_none true = refl
-    or_none false = refl
+both_say n news marks (records.Piece x) = or-false (not (is_clear news x))
 both_say n news marks (records.Touch x) = refl
 both_say n news marks _ = refl
 
@@ -85,7 +82,7 @@ pub both_once : (n : ℕ) (ss : List Stored) (news marks drawn traced : List Pie
 both_once n ss news marks drawn traced gone away pieces touches = differ-append gone away pieces.once touches.once (λ id is. by_record id is (record_at ss id) refl (dropped_there ss gone id pieces.there is))
   where
     by_record : (id : ℕ) → is_dropped gone id ≡ true → (o : Option Record) → record_at ss id ≡ o → is_some (record_at ss id) ≡ true → is_dropped away id ≡ false
-    by_record id is None none some = absurd (bool_apart (sym some ∙ ap is_some none))
+    by_record id is None none some = absurd (true≢false (sym some ∙ ap is_some none))
     by_record id is (Some r) found some = touches.gone id r found ∙ alone n news marks r (sym (pieces.gone id r found) ∙ is)
 
 -- each has a record

@@ -1,5 +1,6 @@
 -- What goes and what comes where entries come into a version.
 use Rattle.std.proofs.Common.{◌≡◌, ℕ, ◌+◌, ◌≤◌, ◌-◌, ◌==◌, ◌&&◌, nat_le, Bool, true, List, ◌++◌, append_assoc, length, vec_len, map, Some, refl, sym, ap, subst, ◌∙◌, arith}
+use Rattle.std.proofs.lemmas.Bool.{and_parts}
 use Rattle.std.specs.List.{list_all}
 use Rattle.std.specs.Str.{bytes_eq}
 use Rattle.std.specs.declared.alloc.Global.{Global}
@@ -14,7 +15,6 @@ use Rattle.wm_spec.specs.declared.record.space.Space.{Space}
 use Rattle.wm_spec.specs.declared.record.stored.Stored.{Stored}
 use Rattle.wm_spec.specs.declared.record.trace.Trace.{Trace}
 use Rattle.wm_state.proofs.Apart.{found-passes, ruled}
-use Rattle.wm_state.proofs.Tests.{both}
 use Rattle.wm_state.specs.Drawing.{AreDrawn, touched as met_by}
 use Rattle.wm_state.specs.Entries.{AreStamped, pieces_of, rows_in}
 use Rattle.wm_state.specs.Standing.{has_history}
@@ -34,10 +34,10 @@ counted_as v k is = omega (arith, is)
 -- the next place of a workspace is behind the first
 pub some_place : (p : Parts) (n : ℕ) (a : Space) → keep_rules p ≡ true → space_of p.spaces n ≡ Some a → nat_le 1 a.next_place ≡ true
 some_place p n a rules there =
-    let numbers = both (differ (λ (s t : Space). s.number == t.number) p.spaces) _ (both _ _ (ruled p rules).spaces).1 in
-    let each = both (differ (λ (s t : Space). bytes_eq s.name t.name) p.spaces) (list_all (is_space (space_of p.spaces)) p.spaces) numbers.1 in
+    let numbers = and_parts (differ (λ (s t : Space). s.number == t.number) p.spaces) _ (and_parts _ _ (ruled p rules).spaces).1 in
+    let each = and_parts (differ (λ (s t : Space). bytes_eq s.name t.name) p.spaces) (list_all (is_space (space_of p.spaces)) p.spaces) numbers.1 in
     let own = found-passes (λ (x : Space). x.number == n) (is_space (space_of p.spaces)) p.spaces a there each.1 in
-    (both (nat_le 1 a.next_place) _ (both (is_placed (space_of p.spaces) a && (is_short a.name && is_short a.writer)) _ own.1).1).0
+    (and_parts (nat_le 1 a.next_place) _ (and_parts (is_placed (space_of p.spaces) a && (is_short a.name && is_short a.writer)) _ own.1).1).0
 
 pub placed : (next : ℕ) → nat_le 1 next ≡ true → 1 ≤ next
 placed next some = grind (arith, some)

@@ -45,9 +45,9 @@ pub fn written(
     let mut changes = front;
     changes.push(put(image.id_of_counters(), Record::Counters(counters)))?;
     changes.push(put(space_id, Record::Space(space)))?;
-    let said = drop_all(&mut changes, dropped.as_slice());
+    let pushed = drop_all(&mut changes, dropped.as_slice());
     drop(dropped);
-    said?;
+    pushed?;
     put_all(&mut changes, id, news)?;
     Ok(changes)
 }

@@ -193,9 +193,9 @@ fn lay(
     } = draft;
     let (met, left) = part_ids(alloc, image, layer, &new, left)?;
     push_pieces_at(alloc, image, layer, &mut hand, met.as_slice())?;
-    let said = dropped.extend_from_slice(met.as_slice());
+    let extended = dropped.extend_from_slice(met.as_slice());
     drop(met);
-    said?;
+    extended?;
     let hand = lay_over(alloc, new, hand)?;
     Ok(Draft {
         dropped,

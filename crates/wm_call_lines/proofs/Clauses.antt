@@ -1,7 +1,8 @@
 -- What a text is as a where_clause.
 use Rattle.std.proofs.Common.{◌≡◌, ℕ, Bool, true, false, cond, List, [], ◌∷◌, length, refl, sym, ap, subst, ◌∙◌, arith, Option, Some, None, Result, Ok, Err}
-use Rattle.std.specs.Prelude.{◌==◌, ◌||◌}
+use Rattle.std.specs.Prelude.{◌==◌}
 use Rattle.std.proofs.lemmas.Bool.{eqb-true}
+use Rattle.std.proofs.Math.Bool.{or-false}
 use Rattle.wm_base.specs.declared.tree.constant.Const.TheVariants as consts
 use Rattle.wm_base.specs.declared.tree.statement.ArgValue.{ArgValue}
 use Rattle.wm_base.specs.declared.tree.statement.ArgValue.TheVariants as values
@@ -23,20 +24,16 @@ use Rattle.wm_terms.specs.declared.error.ParseError.TheVariants as errors
 abbrev pub Value : Type 0
 Value = ArgValue × Option Cond
 
-or_false : (b : Bool) → b ≡ (b || false)
-or_false true = refl
-or_false false = refl
-
 pub clause_other : (ts : List Symbol) → next_in (sorts.TEXT ∷ []) ts ≡ false → clause_at ts ≡ Err (left_of ts)
 clause_other [] e = refl
-clause_other (t ∷ ts) e = ap (λ (z : Bool). cond z (taken (clause t) t ts) (Err t.left)) (or_false (t.sort == sorts.TEXT) ∙ e)
+clause_other (t ∷ ts) e = ap (λ (z : Bool). cond z (taken (clause t) t ts) (Err t.left)) (sym (or-false (t.sort == sorts.TEXT)) ∙ e)
 
 -- what a text is taken for
 takes : (ts : List Symbol) (o : Option Value) → next_in (sorts.TEXT ∷ []) ts ≡ true → clause_in (unquoted (next_text ts)) ≡ o → clause_at ts ≡ elim o as (λ _. Result (Value × List Symbol) ℕ) [ None ↦ Err (left_of ts) | Some v ↦ Ok (v, behind ts) ]
 unfolding clause
 takes [] o e f = absurd cc
-takes (t ∷ ts) None e f = ap (λ (z : Bool). cond z (taken (clause t) t ts) (Err t.left)) (or_false (t.sort == sorts.TEXT) ∙ e) ∙ ap (λ (v : Option Value). taken v t ts) f
-takes (t ∷ ts) (Some v) e f = ap (λ (z : Bool). cond z (taken (clause t) t ts) (Err t.left)) (or_false (t.sort == sorts.TEXT) ∙ e) ∙ ap (λ (v : Option Value). taken v t ts) f
+takes (t ∷ ts) None e f = ap (λ (z : Bool). cond z (taken (clause t) t ts) (Err t.left)) (sym (or-false (t.sort == sorts.TEXT)) ∙ e) ∙ ap (λ (v : Option Value). taken v t ts) f
+takes (t ∷ ts) (Some v) e f = ap (λ (z : Bool). cond z (taken (clause t) t ts) (Err t.left)) (sym (or-false (t.sort == sorts.TEXT)) ∙ e) ∙ ap (λ (v : Option Value). taken v t ts) f
 
 pub clause_empty : (ts : List Symbol) (bytes : List ℕ) → next_in (sorts.TEXT ∷ []) ts ≡ true → bytes ≡ unquoted (next_text ts) → (length bytes == 0) ≡ true → clause_at ts ≡ Ok ((values.Const consts.Null, None), behind ts)
 clause_empty ts [] e same none = takes ts (Some (values.Const consts.Null, None)) e (ap clause_in (sym same))

@@ -1,8 +1,8 @@
 -- Where no written period of a statement is empty, each of its expressions may be evaluated.
-use Rattle.std.proofs.Common.{◌≡◌, ℕ, Bool, true, false, not, ◌&&◌, ◌||◌, List, [], ◌∷◌, Option, refl}
+use Rattle.std.proofs.Common.{◌≡◌, ℕ, Bool, true, false, ◌||◌, List, [], ◌∷◌, Option, refl}
 use Rattle.std.specs.Prelude.{nat_lt}
 use Rattle.std.specs.List.{list_any, list_all}
-use Rattle.std.proofs.lemmas.Bool.{or_parts}
+use Rattle.std.proofs.lemmas.Bool.{or_parts, and_from, not-false, true≢false}
 use Rattle.wm_base.specs.declared.tree.constant.Const.{Const}
 use Rattle.wm_base.specs.declared.tree.constant.Const.TheVariants as consts
 use Rattle.wm_base.specs.declared.tree.operand.Operand.{Operand}
@@ -13,24 +13,13 @@ use Rattle.wm_spec.specs.Operands.{end_seconds}
 use Rattle.wm_spec.specs.Expressions.{lasts, has_no_empty_period}
 use Rattle.wm_calls.specs.Empty.{is_empty_const, operand_has_empty, expr_has_empty, filter_has_empty, item_has_empty, out_has_empty, projection_has_empty, src_has_empty, query_has_empty, set_has_empty, has_empty_period}
 
-true_false : true ≡ false → ⊥
-true_false e = cc
-
-holds : (b : Bool) → not b ≡ false → b ≡ true
-holds true none = refl
-holds false none = absurd (true_false none)
-
-both_hold : (a b : Bool) → a ≡ true → b ≡ true → (a && b) ≡ true
-both_hold true b first second = second
-both_hold false b first second = first
-
 const_lasts : (c : Const) → is_empty_const c ≡ false → lasts (operands.Const c) ≡ true
 const_lasts consts.Null none = refl
 const_lasts (consts.Num n) none = refl
 const_lasts (consts.Text text) none = refl
 const_lasts (consts.Time seconds) none = refl
 const_lasts consts.Sysdate none = refl
-const_lasts (consts.Span from till) none = holds (nat_lt (end_seconds from) (end_seconds till)) none
+const_lasts (consts.Span from till) none = not-false (nat_lt (end_seconds from) (end_seconds till)) none
 
 operand_lasts : (x : Operand) → operand_has_empty x ≡ false → lasts x ≡ true
 operand_lasts (operands.Col col) none = refl
@@ -40,19 +29,19 @@ operand_lasts (operands.Test operator left right) none = refl
 pub expr_lasts : (x : Expr) → expr_has_empty x ≡ false → has_no_empty_period x ≡ true
 expr_lasts (Of x) none = operand_lasts x none
 expr_lasts (Neg x) none = expr_lasts x none
-expr_lasts (Add x y) none = let h = or_parts (expr_has_empty x) (expr_has_empty y) none in both_hold _ _ (expr_lasts x h.0) (expr_lasts y h.1)
-expr_lasts (Sub x y) none = let h = or_parts (expr_has_empty x) (expr_has_empty y) none in both_hold _ _ (expr_lasts x h.0) (expr_lasts y h.1)
-expr_lasts (Mul x y) none = let h = or_parts (expr_has_empty x) (expr_has_empty y) none in both_hold _ _ (expr_lasts x h.0) (expr_lasts y h.1)
+expr_lasts (Add x y) none = let h = or_parts (expr_has_empty x) (expr_has_empty y) none in and_from _ _ (expr_lasts x h.0) (expr_lasts y h.1)
+expr_lasts (Sub x y) none = let h = or_parts (expr_has_empty x) (expr_has_empty y) none in and_from _ _ (expr_lasts x h.0) (expr_lasts y h.1)
+expr_lasts (Mul x y) none = let h = or_parts (expr_has_empty x) (expr_has_empty y) none in and_from _ _ (expr_lasts x h.0) (expr_lasts y h.1)
 
 -- ---- lists
 
 pub exprs_last : (xs : List Expr) → list_any expr_has_empty xs ≡ false → list_all has_no_empty_period xs ≡ true
 exprs_last [] none = refl
-exprs_last (x ∷ xs) none = let h = or_parts (expr_has_empty x) (list_any expr_has_empty xs) none in both_hold _ _ (expr_lasts x h.0) (exprs_last xs h.1)
+exprs_last (x ∷ xs) none = let h = or_parts (expr_has_empty x) (list_any expr_has_empty xs) none in and_from _ _ (expr_lasts x h.0) (exprs_last xs h.1)
 
 pub sets_last : (sets : List Set) → list_any set_has_empty sets ≡ false → list_all (λ (s : Set). has_no_empty_period s.becomes) sets ≡ true
 sets_last [] none = refl
-sets_last (s ∷ sets) none = let h = or_parts (set_has_empty s) (list_any set_has_empty sets) none in both_hold _ _ (expr_lasts s.becomes h.0) (sets_last sets h.1)
+sets_last (s ∷ sets) none = let h = or_parts (set_has_empty s) (list_any set_has_empty sets) none in and_from _ _ (expr_lasts s.becomes h.0) (sets_last sets h.1)
 
 -- a test of items that asks no more of an expression than that it has no empty period
 pub record AsksToLast (test : Item → Bool) : Type 0 where
@@ -67,12 +56,12 @@ item_lasts test asks (Aggregate agg x) none = asks.aggregate agg x (expr_lasts x
 
 pub outs_last : (test : Item → Bool) → AsksToLast test → (os : List Out) → list_any out_has_empty os ≡ false → list_all (λ (o : Out). test o.item) os ≡ true
 outs_last test asks [] none = refl
-outs_last test asks (o ∷ os) none = let h = or_parts (out_has_empty o) (list_any out_has_empty os) none in both_hold _ _ (item_lasts test asks o.item h.0) (outs_last test asks os h.1)
+outs_last test asks (o ∷ os) none = let h = or_parts (out_has_empty o) (list_any out_has_empty os) none in and_from _ _ (item_lasts test asks o.item h.0) (outs_last test asks os h.1)
 
 -- ---- statements
 
 first_of_three : (a b c : Bool) → (a || b || c) ≡ false → a ≡ false
-first_of_three true b c none = absurd (true_false none)
+first_of_three true b c none = absurd (true≢false none)
 first_of_three false b c none = refl
 
 -- the values of an INSERT

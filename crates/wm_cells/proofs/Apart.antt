@@ -4,7 +4,7 @@ use Rattle.std.proofs.lemmas.Bool.Decides.{nat_tests}
 use Rattle.std.proofs.lemmas.Bool.{and_parts, lt-ltb, ltb-true}
 use Rattle.std.proofs.lemmas.Cmp.{nat_cmp_total, on_total, then_total}
 use Rattle.std.proofs.lemmas.List.Sorted.{IsPermutation-map}
-use Rattle.std.specs.Cmp.{IsTotalOrder}
+use Rattle.std.specs.Cmp.{IsTotalOrder, Equal-is}
 use Rattle.std.specs.List.{list_any, list_all}
 use Rattle.std.specs.List.Sorted.{IsSortedBy, IsPermutation}
 use Rattle.std.specs.Ordering.{nat_cmp, is_lt, is_eq, ordering_then, ordering_reverse}
@@ -33,11 +33,6 @@ not_less Greater p h e = cc
 
 turned : (o p : Ordering) → o ≡ ordering_reverse p → p ≡ Greater → o ≡ Less
 turned o p e g = e ∙ ap ordering_reverse g
-
-is_equal : (o : Ordering) → is_eq o ≡ true → o ≡ Equal
-is_equal Less e = cc
-is_equal Equal e = refl
-is_equal Greater e = cc
 
 -- an order of groups of items, which are on cells
 module _ {A : Type 0} (group : A → A → Ordering) (cells : A → CellRange) (total : IsTotalOrder group) where
@@ -69,7 +64,7 @@ module _ {A : Type 0} (group : A → A → Ordering) (cells : A → CellRange) (
       let parts = and_parts (is_eq (group x y)) (nat_lt (cells x).from (cells y).till && nat_lt (cells y).from (cells x).till) e in
       let times = and_parts (nat_lt (cells x).from (cells y).till) (nat_lt (cells y).from (cells x).till) parts.1 in
       record {
-        same = is_equal (group x y) parts.0;
+        same = (Equal-is (group x y)).0 parts.0;
         first = ltb-true (cells x).from (cells y).till times.0;
         second = ltb-true (cells y).from (cells x).till times.1;
       }

@@ -1,35 +1,17 @@
 -- Records that are collected by their kind, one by one.
 use Rattle.std.proofs.Common.{◌≡◌, ℕ, ◌+◌, ◌<◌, ◌≤◌, List, [], ◌∷◌, ◌++◌, length, map, sym, ap, ◌∙◌, take, get_or}
 use Rattle.std.proofs.lemmas.List.{take_more, map-append, append-nil, take_all}
-use Rattle.std.proofs.lemmas.List.Elements.{filter_map-append}
 use Rattle.wm_cells.specs.Lookups.{added}
-use Rattle.wm_graph.specs.Parts.{Parts, parts_in, parts_of, as_counters, as_table, as_space, as_version, as_savepoint, as_row, as_piece, as_touch, as_lock, as_hist, as_mark, as_turn}
+use Rattle.wm_graph.proofs.Joined.{joined, parts-append}
+use Rattle.wm_graph.specs.Parts.{Parts, parts_in, parts_of}
 use Rattle.wm_spec.specs.declared.record.Record.{Record}
 use Rattle.wm_spec.specs.declared.record.Record.TheVariants as records
 use Rattle.wm_spec.specs.declared.record.stored.Stored.{Stored}
 
--- each kind of the one before that of the other
-abbrev joined : Parts → Parts → Parts
-joined p q = record {
-  counters = p.counters ++ q.counters;
-  tables = p.tables ++ q.tables;
-  spaces = p.spaces ++ q.spaces;
-  versions = p.versions ++ q.versions;
-  savepoints = p.savepoints ++ q.savepoints;
-  rows = p.rows ++ q.rows;
-  pieces = p.pieces ++ q.pieces;
-  touches = p.touches ++ q.touches;
-  locks = p.locks ++ q.locks;
-  hists = p.hists ++ q.hists;
-  marks = p.marks ++ q.marks;
-  turns = p.turns ++ q.turns;
-}
-
 -- one more record, kind by kind
 parts_last : (xs : List Record) (x : Record) → parts_in (xs ++ x ∷ []) ≡ added (parts_in xs) x
-parts_last xs x =
-    simp (filter_map-append as_counters xs (x ∷ []), filter_map-append as_table xs (x ∷ []), filter_map-append as_space xs (x ∷ []), filter_map-append as_version xs (x ∷ []), filter_map-append as_savepoint xs (x ∷ []), filter_map-append as_row xs (x ∷ []), filter_map-append as_piece xs (x ∷ []), filter_map-append as_touch xs (x ∷ []), filter_map-append as_lock xs (x ∷ []), filter_map-append as_hist xs (x ∷ []), filter_map-append as_mark xs (x ∷ []), filter_map-append as_turn xs (x ∷ []))
-    (of x)
+unfolding joined
+parts_last xs x = parts-append xs (x ∷ []) ∙ of x
   where
     of : (y : Record) → joined (parts_in xs) (parts_in (y ∷ [])) ≡ added (parts_in xs) y
     of (records.Counters r) = simp append-nil

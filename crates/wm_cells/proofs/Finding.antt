@@ -2,6 +2,7 @@
 use Rattle.std.proofs.Common.{◌≡◌, ℕ, ◌+◌, ◌<◌, ◌==◌, Bool, true, false, not, ◌&&◌, ◌||◌, if◌then◌else◌, List, [], ◌∷◌, ◌++◌, length, Option, Some, None, is_some, option_map, refl, sym, ap, ◌∙◌, arith, take, get_or}
 use Rattle.std.proofs.lemmas.Bool.Decides.{nat_tests, Decides-eqb}
 use Rattle.std.proofs.lemmas.List.Folds.{find-append, list_any-append}
+use Rattle.std.proofs.Math.Bool.{and-false, and-true}
 use Rattle.std.specs.BTreeMap.{is_at}
 use Rattle.std.specs.List.{find, list_any}
 use Rattle.std.specs.Map.{lookup}
@@ -67,7 +68,7 @@ finds_again {A} number items entries differs k x f is there = record {
       f.finds n
       ∙ kept (number x == n) (find (λ y. number y == n) items) (λ e. ap is_some (sym (f.finds n)) ∙ found_has entries n ∙ ap (λ m. has entries m) (sym (is ∙ (Decides-eqb (number x) n).0 e)) ∙ there)
       ∙ sym (find-append (λ y. number y == n) items (x ∷ []));
-  differ = sym (differ_more (λ y z. number y == number z) items x ∙ ap (λ b. differ (λ y z. number y == number z) items && not b) (same_number number items entries differs k x f is ∙ there) ∙ false_last (differ (λ y z. number y == number z) items));
+  differ = sym (differ_more (λ y z. number y == number z) items x ∙ ap (λ b. differ (λ y z. number y == number z) items && not b) (same_number number items entries differs k x f is ∙ there) ∙ and-false (differ (λ y z. number y == number z) items));
 }
   where
     kept : (b : Bool) (o : Option A) → (b ≡ true → is_some o ≡ true) → o ≡ option_or o (if b then Some x else None)
@@ -75,10 +76,6 @@ finds_again {A} number items entries differs k x f is there = record {
     kept true (Some y) h = refl
     kept false None h = refl
     kept false (Some y) h = refl
-
-    false_last : (b : Bool) → (b && false) ≡ false
-    false_last true = refl
-    false_last false = refl
 
 -- an item whose number is new
 pub finds_more : {A : Type 0} (number : A → ℕ) (items : List A) (entries new : List (ℕ × Bor A)) (differs : Bool) (k : ℕ) (x : Bor A) → Finds number items entries differs → k ≡ number x.now → has entries k ≡ false → ((n : ℕ) → lookup (is_at (nat_cmp n)) new ≡ (if is_at (nat_cmp k) n then Some x else lookup (is_at (nat_cmp n)) entries)) → Finds number (items ++ x.now ∷ []) new differs
@@ -88,7 +85,7 @@ finds_more {A} number items entries new differs k x f is fresh update = record {
       ∙ added (number x.now == n) (lookup (is_at (nat_cmp n)) entries) (λ e. ap (λ m. has entries m) (sym (is ∙ (Decides-eqb (number x.now) n).0 e)) ∙ fresh)
       ∙ ap (λ o. option_or o (if number x.now == n then Some x.now else None)) (f.finds n)
       ∙ sym (find-append (λ y. number y == n) items (x.now ∷ []));
-  differ = sym (differ_more (λ y z. number y == number z) items x.now ∙ ap (λ b. differ (λ y z. number y == number z) items && not b) (same_number number items entries differs k x.now f is ∙ fresh) ∙ true_last (differ (λ y z. number y == number z) items) ∙ sym f.differ);
+  differ = sym (differ_more (λ y z. number y == number z) items x.now ∙ ap (λ b. differ (λ y z. number y == number z) items && not b) (same_number number items entries differs k x.now f is ∙ fresh) ∙ and-true (differ (λ y z. number y == number z) items) ∙ sym f.differ);
 }
   where
     added : (b : Bool) (o : Option (Bor A)) → (b ≡ true → is_some o ≡ false) → option_map (λ (r : Bor A). r.now) (if b then Some x else o) ≡ option_or (option_map (λ (r : Bor A). r.now) o) (if b then Some x.now else None)
@@ -96,10 +93,6 @@ finds_more {A} number items entries new differs k x f is fresh update = record {
     added true (Some y) h = cc (h refl)
     added false None h = refl
     added false (Some y) h = refl
-
-    true_last : (b : Bool) → (b && true) ≡ b
-    true_last true = refl
-    true_last false = refl
 
 -- ---- a turn of a loop over references
 

@@ -1,5 +1,6 @@
 -- Items that pass a test in pairs, from some place on.
 use Rattle.std.proofs.Common.{◌≡◌, ◌≢◌, ℕ, Bool, true, false, ◌&&◌, List, [], ◌∷◌, length, slice_get, Option, Some, None, refl, sym, ap, ◌∙◌, arith}
+use Rattle.std.proofs.Math.Bool.{and-false}
 use Rattle.std.specs.Option.{option_and_then, option_map, option_map_or}
 use Rattle.std.specs.Ordering.{is_eq, ordering_then}
 use Rattle.std.specs.declared.cmp.Ordering.{Ordering}
@@ -38,11 +39,7 @@ pub not_as_many : {A B : Type 0} (test : A → B → Bool) (xs : List A) (ys : L
 not_as_many test [] [] other = absurd (other refl)
 not_as_many test [] (y ∷ ys) other = refl
 not_as_many test (x ∷ xs) [] other = refl
-not_as_many test (x ∷ xs) (y ∷ ys) other = rw (← not_as_many test xs ys (λ same. other (omega (arith, same)))) (last (test x y))
-  where
-    last : (b : Bool) → false ≡ (b && false)
-    last true = refl
-    last false = refl
+not_as_many test (x ∷ xs) (y ∷ ys) other = rw (← not_as_many test xs ys (λ same. other (omega (arith, same)))) (sym (and-false (test x y)))
 
 -- ---- values that fit columns
 
@@ -78,11 +75,7 @@ pairs_at row (p ∷ ps) (w ∷ ws) = ap (λ b. is_at row p w && b) (pairs_at row
     by_order Equal p = refl
     by_order Greater p = refl
 
-    both_false : (b : Bool) → (b && false) ≡ false
-    both_false true = refl
-    both_false false = refl
-
     by_values : (first : Option Value) (rest : Option (List Value)) → (option_map_or (λ (v : Value). is_eq (value_order v w)) first false && is_key ws rest) ≡ is_key (w ∷ ws) (option_and_then (λ v. option_map (λ vs. v ∷ vs) rest) first)
     by_values None rest = refl
-    by_values (Some v) None = both_false (is_eq (value_order v w))
+    by_values (Some v) None = and-false (is_eq (value_order v w))
     by_values (Some v) (Some vs) = by_order (value_order v w) (key_order vs ws)

@@ -4,6 +4,7 @@ use Rattle.std.proofs.Math.ListN.{set}
 use Rattle.std.proofs.lemmas.List.Sorted.{IsPermutation-keeps}
 use Rattle.std.specs.List.{list_any, list_all, swap}
 use Rattle.std.specs.List.Sorted.{IsPermutation}
+use Rattle.wm_base.proofs.Plain.{and_swap, or_swap}
 use Rattle.wm_graph.specs.Rules.{differ}
 
 -- A relation holds along each permutation if it is reflexive and transitive, and goes under a head and over an exchange of two heads.
@@ -37,24 +38,12 @@ record Alike {X : Type 0} (test : X → X → Bool) (xs ys : List X) : Type 0 wh
   all : (p : X → Bool) → list_all p xs ≡ list_all p ys
   differs : differ test xs ≡ differ test ys
 
-either_first : (a b c : Bool) → (a || (b || c)) ≡ (b || (a || c))
-either_first true true c = refl
-either_first true false c = refl
-either_first false true c = refl
-either_first false false c = refl
-
 either_head : (a b c d : Bool) → (not (a || b) && (not c && d)) ≡ (not (a || c) && (not b && d))
 either_head true b c d = refl
 either_head false true true d = refl
 either_head false true false d = refl
 either_head false false true d = refl
 either_head false false false d = refl
-
-both_first : (a b c : Bool) → (a && (b && c)) ≡ (b && (a && c))
-both_first true true c = refl
-both_first true false c = refl
-both_first false true c = refl
-both_first false false c = refl
 
 alike_permuted : {X : Type 0} (test : X → X → Bool) → ((x y : X) → test x y ≡ test y x) → (xs ys : List X) → IsPermutation xs ys → Alike test xs ys
 alike_permuted {X} test symmetric = along_permutation (Alike test) same skip turn chain
@@ -71,8 +60,8 @@ alike_permuted {X} test symmetric = along_permutation (Alike test) same skip tur
 
     turn : (x y : X) (l : List X) → Alike test (x ∷ y ∷ l) (y ∷ x ∷ l)
     turn x y l = record {
-      passes = λ p. either_first (p x) (p y) (list_any p l);
-      all = λ p. both_first (p x) (p y) (list_all p l);
+      passes = λ p. or_swap (p x) (p y) (list_any p l);
+      all = λ p. and_swap (p x) (p y) (list_all p l);
       differs = rw (symmetric x y) (either_head (test y x) (list_any (test x) l) (list_any (test y) l) (differ test l));
     }
 

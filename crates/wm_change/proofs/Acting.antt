@@ -1,5 +1,6 @@
 -- What a plan that changes rows of a table does in the workspace that a session stands in.
 use Rattle.std.proofs.Common.{◌≡◌, ℕ, ◌+◌, nat_le, nat_lt, Bool, true, false, List, [], ◌∷◌, length, Option, Result, Ok, Err, IfOk, refl, sym, ap, ◌∙◌, codes, Vec, Global, vec_len, arith}
+use Rattle.std.proofs.lemmas.Bool.{true≢false}
 use Rattle.wm_base.specs.declared.memory.Memory.{Memory}
 use Rattle.wm_base.specs.declared.refusal.Refusal.{Refusal}
 use Rattle.wm_base.specs.declared.row.Row.{Row}
@@ -13,7 +14,6 @@ use Rattle.wm_spec.specs.declared.record.space.Space.{Space}
 use Rattle.wm_spec.specs.declared.record.stored.Stored.{Stored}
 use Rattle.wm_spec.specs.declared.record.table.Table.{Table}
 use Rattle.wm_state.proofs.Counting.{CountsAs}
-use Rattle.wm_state.proofs.Tests.{bool_apart}
 use Rattle.std.specs.List.{list_all}
 use Rattle.wm_model.specs.Lawful.{is_full_row}
 use Rattle.wm_state.specs.Drawing.{are_sorted}
@@ -55,7 +55,7 @@ answers_so rs m p session a done answer rules same none seats says = does_answer
 pub answers_full : (rs : List Stored) (m : ℕ) (p : Planned) (session : Session) (a : Space) (done : InSpace) (answer : Answer) (rows : List Row) → keep_rules (parts_of rs) ≡ true → AreFull rs m session a rows → list_all is_full_row rows ≡ false
     → p.edits.items ≡ [] → seating_view p.seating ≡ Stay → answer_view p.answer ≡ answer → DoesAs rs m session a done p
 answers_full rs m p session a done answer rows rules are empty none seats says =
-    does_answer rs m p session a done answer rules (λ xs s w st home. absurd (bool_apart (sym (are.full xs s w st home) ∙ empty))) none seats says
+    does_answer rs m p session a done answer rules (λ xs s w st home. absurd (true≢false (sym (are.full xs s w st home) ∙ empty))) none seats says
 
 -- what does the same
 pub does_so : (rs : List Stored) (m : ℕ) (r : Result Planned Memory) (session : Session) (a : Space) (done other : InSpace) → ((s : State) (w : Workspace) → other s w ≡ done s w)

@@ -1,19 +1,20 @@
 -- What a plan that writes changes of rows does.
-use Rattle.std.proofs.Common.{◌≡◌, ℕ, zero, suc, ◌+◌, ◌^◌, ◌<◌, ◌≤◌, ◌&&◌, nat_le, nat_lt, Bool, true, false, List, [], ◌∷◌, ◌++◌, length, vec_len, map, Option, Some, None, Result, Ok, Err, IfOk, refl, sym, ap, ◌∙◌, arith, codes}
+use Rattle.std.proofs.Common.{◌≡◌, ℕ, zero, suc, ◌+◌, ◌^◌, ◌<◌, ◌&&◌, nat_le, nat_lt, Bool, true, false, List, [], ◌∷◌, ◌++◌, length, vec_len, map, Option, Some, None, Result, Ok, Err, IfOk, refl, sym, ap, ◌∙◌, arith, codes}
 use Rattle.std.proofs.lemmas.List.{map-append}
+use Rattle.std.proofs.lemmas.Bool.{and_from, and_parts, leb-true}
 use Rattle.std.specs.List.{list_all}
 use Rattle.std.specs.Option.{option_map, option_map_or}
 use Rattle.std.specs.declared.alloc.Global.{Global}
 use Rattle.std.specs.declared.vec.Vec.{Vec}
 use Rattle.wm_base.specs.declared.row.Row.{Row}
 use Rattle.wm_base.specs.declared.value.Value.{Value}
-use Rattle.wm_base.specs.declared.value.Value.TheVariants.{Null, Num, Text, Time, Span}
 use Rattle.wm_dml.specs.declared.change.RowChange.{RowChange}
 use Rattle.wm_base.specs.declared.memory.Memory.{Memory}
 use Rattle.wm_graph.specs.Parts.{parts_of}
 use Rattle.wm_graph.specs.Rules.{are_counters, keep_rules}
 use Rattle.wm_making.specs.Rows.{is_filled}
 use Rattle.wm_model.proofs.Doing.{does_nothing, spent_at}
+use Rattle.wm_model.proofs.Unready.{can_keep-filled}
 use Rattle.wm_model.proofs.Written.{does_write}
 use Rattle.wm_model.specs.Changes.{MayWrite}
 use Rattle.wm_model.specs.Entered.{change_entry, entries_from, entries_of}
@@ -25,7 +26,6 @@ use Rattle.wm_spec.specs.declared.record.space.Space.{Space}
 use Rattle.wm_spec.specs.declared.record.stored.Stored.{Stored}
 use Rattle.wm_spec.specs.declared.record.table.Table.{Table}
 use Rattle.wm_state.proofs.Counting.{counted_well}
-use Rattle.wm_state.proofs.Tests.{both, and_true}
 use Rattle.wm_state.specs.Drafts.{can_keep, can_keep_entry}
 use Rattle.wm_state.specs.Editing.{entry_of, row_value}
 use Rattle.wm_state.specs.State.{Session}
@@ -70,23 +70,16 @@ entries_more stamp next m user t xs x before after e are place made pushed =
 
 -- ---- no text in them is empty
 
-same_test : (v : Value) → can_keep v ≡ is_filled v
-same_test Null = refl
-same_test (Num n) = refl
-same_test (Text t) = refl
-same_test (Time i) = refl
-same_test (Span p) = refl
-
 same_tests : (vs : List Value) → list_all can_keep vs ≡ list_all is_filled vs
 same_tests [] = refl
-same_tests (v ∷ vs) = rw (same_test v, same_tests vs) refl
+same_tests (v ∷ vs) = rw (can_keep-filled v, same_tests vs) refl
 
 -- nor in the entries of changes in which none is
 pub kept_entries : (stamp m : ℕ) (user : List ℕ) (t : Table) (xs : List RowChange) → list_all is_filled_change xs ≡ true → list_all can_keep_entry (entries_from stamp m user t xs) ≡ true
 kept_entries stamp m user t [] filled = refl
 kept_entries stamp m user t (x ∷ xs) filled =
-    let h = both (is_filled_change x) (list_all is_filled_change xs) filled in
-    and_true (can_keep_entry (change_entry stamp m user t x)) _ (ap (λ b. b && row_kept (option_map row_value x.row)) (same_tests x.key) ∙ ap (λ b. list_all is_filled x.key && b) (by_row x.row) ∙ h.0) (kept_entries (stamp + 1) m user t xs h.1)
+    let h = and_parts (is_filled_change x) (list_all is_filled_change xs) filled in
+    and_from (can_keep_entry (change_entry stamp m user t x)) _ (ap (λ b. b && row_kept (option_map row_value x.row)) (same_tests x.key) ∙ ap (λ b. list_all is_filled x.key && b) (by_row x.row) ∙ h.0) (kept_entries (stamp + 1) m user t xs h.1)
   where
     row_kept : Option Row → Bool
     row_kept o = option_map_or (λ (row : Row). list_all can_keep row.values) o true
@@ -131,12 +124,9 @@ stamps_fit rs c k rules one left = fits (c.next_stamp + k) c.limit left (small (
   where
     small : are_counters c ≡ true → nat_le c.limit 1048576 ≡ true
     small e =
-        let h = both ((nat_le 1 c.limit && nat_le c.limit 1048576) && (nat_le 1 c.next_stamp && nat_le c.next_stamp (c.limit + 1))) _ e in
-        let f = both (nat_le 1 c.limit && nat_le c.limit 1048576) (nat_le 1 c.next_stamp && nat_le c.next_stamp (c.limit + 1)) h.0 in
-        (both (nat_le 1 c.limit) (nat_le c.limit 1048576) f.0).1
+        let h = and_parts ((nat_le 1 c.limit && nat_le c.limit 1048576) && (nat_le 1 c.next_stamp && nat_le c.next_stamp (c.limit + 1))) _ e in
+        let f = and_parts (nat_le 1 c.limit && nat_le c.limit 1048576) (nat_le 1 c.next_stamp && nat_le c.next_stamp (c.limit + 1)) h.0 in
+        (and_parts (nat_le 1 c.limit) (nat_le c.limit 1048576) f.0).1
 
     fits : (n limit : ℕ) → nat_le n (limit + 1) ≡ true → nat_le limit 1048576 ≡ true → n < 2 ^ 64
-    fits n limit e few = omega (arith, below n (limit + 1) e, below limit 1048576 few)
-      where
-        below : (a b : ℕ) → nat_le a b ≡ true → a ≤ b
-        below a b e = grind (arith, e)
+    fits n limit e few = omega (arith, leb-true n (limit + 1) e, leb-true limit 1048576 few)

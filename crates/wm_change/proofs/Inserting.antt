@@ -1,5 +1,6 @@
 -- What is known of the row that INSERT adds.
-use Rattle.std.proofs.Common.{◌≡◌, ℕ, ◌<◌, ◌≤◌, nat_le, nat_lt, arith, true, List, ◌∷◌, [], Option, Some, None, unwrap_or, refl, ap, ◌∙◌}
+use Rattle.std.proofs.Common.{◌≡◌, ℕ, ◌<◌, ◌≤◌, true, List, ◌∷◌, [], Option, Some, None, unwrap_or, refl, ap, ◌∙◌}
+use Rattle.std.proofs.lemmas.Bool.{and_from, and_parts, le-leb, lt-ltb}
 use Rattle.std.specs.List.{list_all}
 use Rattle.wm_base.specs.Period.{Span}
 use Rattle.wm_base.specs.Trees.{Expr}
@@ -17,7 +18,6 @@ use Rattle.wm_model.proofs.Named.{named_is, ready_keyed}
 use Rattle.wm_model.proofs.Newest.{IsGood}
 use Rattle.wm_spec.specs.declared.record.stored.Stored.{Stored}
 use Rattle.wm_spec.specs.declared.record.table.Table.{Table}
-use Rattle.wm_state.proofs.Tests.{both, and_true}
 use Rattle.wm_change.proofs.Rowing.{insert_faults}
 use Rattle.wm_chosen.specs.Chosen.{is_keyed_row}
 use Rattle.wm_change.specs.Inserting.{IsFine}
@@ -29,7 +29,7 @@ is_good rs i rules fine = record { ready = record { rules = rules; some = fine.t
 
 -- a row that may stand in the table has its key
 stands_keyed : (t : Table) (row : List Value) → MayStand t row → is_keyed_row t row ≡ true
-stands_keyed t row may = and_true (is_row_of row t) (is_key_of (row_key t row) t) may.fits (ap (λ (o : Option (List Value)). is_key_of (unwrap_or o []) t) may.key ∙ may.key_fits)
+stands_keyed t row may = and_from (is_row_of row t) (is_key_of (row_key t row) t) may.fits (ap (λ (o : Option (List Value)). is_key_of (unwrap_or o []) t) may.key ∙ may.key_fits)
 
 -- the row that the statement gives has its key, where it may stand in a table that is in order and has a key
 pub row_keyed : (rs : List Stored) (i : Insertion) (row : List Value) → keep_rules (parts_of rs) ≡ true → IsFine rs i → row_of i.table.now i.names.now (exprs_view i.values.now) ≡ Some row
@@ -42,16 +42,10 @@ row_keyed rs i row rules fine is may =
 -- a row with its key is a change of the table
 pub added_fits : (t : Table) (period : Span) (row : List Value) → is_keyed_row t row ≡ true → list_all (is_change t) (added t period row ∷ []) ≡ true
 added_fits t period row keyed =
-    let h = both (is_row_of row t) (is_key_of (row_key t row) t) keyed in
-    and_true (is_change t (added t period row)) true
-    (and_true (is_key_of (row_key t row) t) _ h.1 (and_true (is_row_of row t) (is_key (row_key t row) (key_of t row)) h.0 (same_key t row h.1))) refl
+    let h = and_parts (is_row_of row t) (is_key_of (row_key t row) t) keyed in
+    and_from (is_change t (added t period row)) true
+    (and_from (is_key_of (row_key t row) t) _ h.1 (and_from (is_row_of row t) (is_key (row_key t row) (key_of t row)) h.0 (same_key t row h.1))) refl
 
 -- and lasts where its period does
 pub added_lasts : (t : Table) (period : Span) (row : List Value) → period.from < period.till → period.till ≤ END → list_all change_lasts (added t period row ∷ []) ≡ true
-added_lasts t period row order bound = rw (lt period.from period.till order, le period.till END bound) refl
-  where
-    lt : (m n : ℕ) → m < n → nat_lt m n ≡ true
-    lt m n e = grind (arith, e)
-
-    le : (m n : ℕ) → m ≤ n → nat_le m n ≡ true
-    le m n e = grind (arith, e)
+added_lasts t period row order bound = rw (lt-ltb period.from period.till order, le-leb period.till END bound) refl

@@ -1,7 +1,8 @@
 -- What a plan that gives rows new periods does.
 use Rattle.std.proofs.Common.{◌≡◌, ℕ, ◌≤◌, ◌<◌, ◌-◌, ◌&&◌, true, List, [], ◌∷◌, length, get_or, take, drop, map, Option, Some, None, Result, IfOk, refl, sym, ap, subst, ◌∙◌, Vec, Global, vec_len, arith}
 use Rattle.std.proofs.lemmas.List.{take_all}
-use Rattle.std.proofs.lemmas.Option.{none-some}
+use Rattle.std.proofs.lemmas.Option.{none-some, same_Some}
+use Rattle.std.proofs.lemmas.Bool.{and_from, and_parts}
 use Rattle.std.specs.List.{list_all}
 use Rattle.std.specs.Option.{option_map, option_or}
 use Rattle.wm_base.specs.Period.{Span}
@@ -24,7 +25,6 @@ use Rattle.wm_spec.specs.declared.record.space.Space.{Space}
 use Rattle.wm_spec.specs.declared.record.stored.Stored.{Stored}
 use Rattle.wm_spec.specs.declared.record.table.Table.{Table}
 use Rattle.wm_state.proofs.Listed.{HoldsAll, key_rows}
-use Rattle.wm_state.proofs.Tests.{and_true, both}
 use Rattle.wm_state.specs.Listing.{span_on}
 use Rattle.wm_state.specs.Standing.{Newest, latest}
 use Rattle.wm_state.specs.State.{State, Session, Workspace, content}
@@ -87,13 +87,6 @@ pub finds_none : (p : Parts) (version : ℕ) (t : Table) (moves left : List Move
 finds_none p version t moves [] before none = λ es holds. sym (before es holds)
 finds_none p version t moves (m ∷ ms) before none = absurd (omega (arith, none))
 
-same_some : (x y : List Value) → Some x ≡ Some y → x ≡ y
-same_some x y e = ap values_of e
-  where
-    values_of : Option (List Value) → List Value
-    values_of (Some z) = z
-    values_of None = []
-
 -- before the first there is no key
 pub none_before : (p : Parts) (version : ℕ) (t : Table) (moves : List Move) → NoneAt p version t moves None
 none_before p version t moves = λ m is. absurd (none-some m.key is)
@@ -101,7 +94,7 @@ none_before p version t moves = λ m is. absurd (none-some m.key is)
 -- behind a key of which none was found
 pub none_behind : (p : Parts) (version : ℕ) (t : Table) (moves : List Move) (key : List Value) (found : Option Span) → ((m : Move) → m.key ≡ key → Finds p version (λ es. clash_at es t moves m) (under key found)) → found ≡ None
     → NoneAt p version t moves (Some key)
-none_behind p version t moves key found finds none = λ m is es holds. finds m (sym (same_some key m.key is)) es holds ∙ ap (under key) none
+none_behind p version t moves key found finds none = λ m is es holds. finds m (sym (same_Some key m.key is)) es holds ∙ ap (under key) none
 
 -- the same of rows that are the same
 pub finds_so : (p : Parts) (version : ℕ) (t : Table) (given moves : List Move) (found other : Option (List Value × Span)) → Finds p version (λ es. first_clash es t given given) found → given ≡ moves → found ≡ other
@@ -142,18 +135,18 @@ move_new rs m r session a t moves version newest finds =
 
 -- a part of the old period, where a row over its new one is in order
 pub part_fits : (t : Table) (m : Move) (part : Span) → is_change t (moved_row m) ≡ true → is_change t (left_part m part) ≡ true
-part_fits t m part fit = and_true (is_key_of m.key t) true (both (is_key_of m.key t) (is_row_of m.row t && is_key m.key (key_of t m.row)) fit).0 refl
+part_fits t m part fit = and_from (is_key_of m.key t) true (and_parts (is_key_of m.key t) (is_row_of m.row t && is_key m.key (key_of t m.row)) fit).0 refl
 
 pub part_filled : (m : Move) (part : Span) → is_filled_change (moved_row m) ≡ true → is_filled_change (left_part m part) ≡ true
-part_filled m part filled = and_true (list_all is_filled m.key) true (both (list_all is_filled m.key) (list_all is_filled m.row) filled).0 refl
+part_filled m part filled = and_from (list_all is_filled m.key) true (and_parts (list_all is_filled m.key) (list_all is_filled m.row) filled).0 refl
 
 -- no text is empty in rows that stand in the table
 pub moved_filled : (t : Table) (sets : List Set) (olds : List Row) (news : List (List Value)) → list_all (stands_in t) news ≡ true → list_all (λ (m : Move). is_filled_change (moved_row m)) (moves_of t sets olds news) ≡ true
 moved_filled t sets [] news all = refl
 moved_filled t sets (o ∷ olds) [] all = refl
 moved_filled t sets (o ∷ olds) (r ∷ rs) all =
-    let h = both (stands_in t r) (list_all (stands_in t) rs) all in
-    let k = both (is_row_of r t) (is_key_of (row_key t r) t && list_all is_filled r) h.0 in
-    let f = (both (is_key_of (row_key t r) t) (list_all is_filled r) k.1).1 in
-    and_true (is_filled_change (moved_row (move_of t sets o r))) (list_all (λ (m : Move). is_filled_change (moved_row m)) (moves_of t sets olds rs))
-    (and_true (list_all is_filled (row_key t r)) (list_all is_filled r) (filled_key t r f) f) (moved_filled t sets olds rs h.1)
+    let h = and_parts (stands_in t r) (list_all (stands_in t) rs) all in
+    let k = and_parts (is_row_of r t) (is_key_of (row_key t r) t && list_all is_filled r) h.0 in
+    let f = (and_parts (is_key_of (row_key t r) t) (list_all is_filled r) k.1).1 in
+    and_from (is_filled_change (moved_row (move_of t sets o r))) (list_all (λ (m : Move). is_filled_change (moved_row m)) (moves_of t sets olds rs))
+    (and_from (list_all is_filled (row_key t r)) (list_all is_filled r) (filled_key t r f) f) (moved_filled t sets olds rs h.1)

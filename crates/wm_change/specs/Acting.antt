@@ -1,9 +1,12 @@
 -- What a plan does in the workspace that a session stands in.
-use Rattle.std.specs.Prelude.{ℕ, ◌≡◌, true, List, length, Option, Some, None}
+use Rattle.std.specs.Prelude.{ℕ, ◌≡◌, ◌<◌, true, List, length, Option, Some, None}
 use Rattle.std.specs.List.{list_all}
 use Rattle.wm_base.specs.Trees.{Cond, Set}
+use Rattle.wm_base.specs.declared.instant.TheConstants.{END}
 use Rattle.wm_base.specs.declared.row.Row.{Row}
-use Rattle.wm_graph.specs.Rules.{has_key, is_table}
+use Rattle.wm_change.specs.declared.site.Site.{Site}
+use Rattle.wm_graph.specs.Parts.{parts_of, space_of, table_of}
+use Rattle.wm_graph.specs.Rules.{has_key, is_table, keep_rules}
 use Rattle.wm_spec.specs.declared.record.table.Table.{Table}
 use Rattle.wm_spec.specs.Expressions.{has_no_empty_period}
 use Rattle.wm_typing.specs.Changing.{update_fault}
@@ -30,6 +33,17 @@ ActsAs rs xs m session a done act =
 -- the plan does and answers what each such function does and answers
 abbrev pub DoesAs : List Stored → ℕ → Session → Space → (State → Workspace → State × Answer) → Planned → Type 0
 DoesAs rs m session a done p = (xs : List Session) (act : State → State × Answer) → ActsAs rs xs m session a done act → DoesIt rs xs m p act
+
+-- the table and the workspace are those of the records, which keep the rules
+pub record IsSite (s : Site) : Type 0 where
+  pub rules : keep_rules (parts_of s.image.now) ≡ true
+  pub moment : s.moment < END
+  pub there : table_of (parts_of s.image.now).tables s.table.now.number ≡ Some s.table.now
+  pub on : s.table.now.versioned ≡ true
+  pub home : space_of (parts_of s.image.now).spaces s.session.now.space ≡ Some s.space.now
+
+abbrev pub DoesAt : Site → (State → Workspace → State × Answer) → Planned → Type 0
+DoesAt s done p = DoesAs s.image.now s.moment s.session.now s.space.now done p
 
 -- the sets are those of an UPDATE of a table in workspaces that is not wrong for the table, and has no empty period
 pub record IsUpdate (t : Table) (sets : List Set) : Type 0 where

@@ -1,5 +1,5 @@
 //! UPDATE and DELETE.
-ghost use Rattle.std.specs.Prelude.{◌≡◌, ◌<◌, List, length, map, true, false, Some, IfOk};
+ghost use Rattle.std.specs.Prelude.{◌≡◌, ◌<◌, List, length, map, true, false, IfOk};
 ghost use Rattle.std.specs.List.{list_all};
 ghost use Rattle.wm_base.specs.declared.instant.TheConstants.{END};
 ghost use Rattle.wm_base.specs.declared.row.Row.{Row as RowOf};
@@ -7,11 +7,11 @@ ghost use Rattle.wm_base.specs.Trees.{Set as SetTree};
 ghost use Rattle.wm_base.specs.Views.{filter_view, sets_view};
 ghost use Rattle.wm_dml.specs.Changing.{all_overlap, gone, updated_rows};
 ghost use Rattle.wm_dml.specs.Standing.{MayReplace, all_stand};
-ghost use Rattle.wm_change.specs.Acting.{AreFull, DoesAs, IsUpdate};
+ghost use Rattle.wm_change.specs.Acting.{AreFull, DoesAt, IsSite, IsUpdate};
 ghost use Rattle.wm_chosen.specs.Chosen.{are_keyed};
 ghost use Rattle.wm_plan.specs.Idle.{Idles};
 ghost use Rattle.wm_plan.specs.Planning.{DoesIt};
-ghost use Rattle.wm_graph.specs.Parts.{parts_of, space_of, table_of};
+ghost use Rattle.wm_graph.specs.Parts.{parts_of};
 ghost use Rattle.wm_graph.specs.Rules.{keep_rules};
 ghost use Rattle.wm_making.specs.Rows.{is_filled};
 ghost use Rattle.wm_model.specs.Planning.{IsOpen};
@@ -20,6 +20,7 @@ ghost use Rattle.wm_spec.specs.Expressions.{has_no_empty_period};
 ghost use Rattle.wm_state.specs.State.{Session as SessionState};
 
 use crate::moving::move_all;
+use crate::site::Site;
 use crate::write_all::write_all;
 use std::alloc::Global;
 use wm_base::tree::cond::Cond;
@@ -34,7 +35,6 @@ use wm_plan::planned::Planned;
 use wm_plan::refuse::{empty_period, no_table, not_built, not_latest, out_of_range, versioning};
 use wm_plan::session::{Session, Stand};
 use wm_plan::within::within;
-use wm_spec::record::{Space, Table};
 use wm_typing::{delete_fault, update_fault};
 
 /// Whether the value is no empty text.
@@ -74,31 +74,23 @@ fn are_filled(rows: &[Row]) -> bool
 /// Makes the rows gone. No text in them is empty in a state that the records stand for.
 fn delete_rows(
     alloc: Global,
-    image: &Image,
-    moment: u64,
-    session: &Session,
-    space: &Space,
-    table: &Table,
+    site: Site<'_>,
     within: &Period,
     rows: &[Row],
 ) -> Result<Planned, Memory>
-    requires rules { keep_rules (parts_of image.now) ≡ true }
-    requires moment { moment < END }
-    requires there { table_of (parts_of image.now).tables table.now.number ≡ Some table.now }
-    requires on { table.now.versioned ≡ true }
-    requires home { space_of (parts_of image.now).spaces session.now.space ≡ Some space.now }
-    requires keyed { are_keyed table.now rows.now ≡ true }
-    requires full { AreFull image.now moment session.now space.now rows.now }
-    requires overlap { all_overlap table.now within.now rows.now ≡ true }
-    ensures does { IfOk result (DoesAs image.now moment session.now space.now (write_ascending session.now.user table.now (length rows.now) (map (gone table.now within.now) rows.now))) }
+    requires site { IsSite site }
+    requires keyed { are_keyed site.table.now rows.now ≡ true }
+    requires full { AreFull site.image.now site.moment site.session.now site.space.now rows.now }
+    requires overlap { all_overlap site.table.now within.now rows.now ≡ true }
+    ensures does { IfOk result (DoesAt site.entry (write_ascending site.entry.session.now.user site.entry.table.now (length rows.now) (map (gone site.entry.table.now within.now) rows.now))) }
     ensures idle { IfOk result Idles }
 {
     if !are_filled(rows) {
         return Ok(Planned::answered(alloc, not_built()));
     }
     let count = rows.len() as u64;
-    let changes = deleted(alloc, table, within, rows)?;
-    write_all(alloc, image, moment, session, space, table, count, changes)
+    let changes = deleted(alloc, site.table, within, rows)?;
+    write_all(alloc, site, count, changes)
 }
 
 /// DELETE makes the rows gone on which the condition is true.
@@ -137,118 +129,88 @@ pub fn delete(
     let within = within(moment, session, table);
     let version = image.latest(session.space());
     let rows = chosen_rows(alloc, image, version, table, &within, filter)?;
-    delete_rows(
-        alloc,
+    let site = Site {
         image,
         moment,
         session,
         space,
         table,
-        &within,
-        rows.as_slice(),
-    )
+    };
+    delete_rows(alloc, site, &within, rows.as_slice())
 }
 
 /// Writes the new rows in the places of the old ones, or over the new periods that the sets give them.
 fn change_all(
     alloc: Global,
-    image: &Image,
-    moment: u64,
-    session: &Session,
-    space: &Space,
-    table: &Table,
+    site: Site<'_>,
     within: &Period,
     sets: &[Set],
     rows: &[Row],
     news: Vec<Values>,
 ) -> Result<Planned, Memory>
-    requires rules { keep_rules (parts_of image.now) ≡ true }
-    requires moment { moment < END }
-    requires there { table_of (parts_of image.now).tables table.now.number ≡ Some table.now }
-    requires on { table.now.versioned ≡ true }
-    requires home { space_of (parts_of image.now).spaces session.now.space ≡ Some space.now }
+    requires site { IsSite site }
     requires lasting { list_all (λ (s : SetTree). has_no_empty_period s.becomes) (sets_view sets.now) ≡ true }
-    requires stand { all_stand table.now rows.now ≡ true }
-    requires overlap { all_overlap table.now within.now rows.now ≡ true }
-    requires may_replace { MayReplace table.now rows.now news.items }
-    ensures does { IfOk result (DoesAs image.now moment session.now space.now (change_all session.now.user table.now within.now (sets_view sets.now) rows.now news.items)) }
+    requires stand { all_stand site.table.now rows.now ≡ true }
+    requires overlap { all_overlap site.table.now within.now rows.now ≡ true }
+    requires may_replace { MayReplace site.table.now rows.now news.items }
+    ensures does { IfOk result (DoesAt site.entry (change_all site.entry.session.now.user site.entry.table.now within.now (sets_view sets.now) rows.now news.items)) }
     ensures idle { IfOk result Idles }
 {
-    if sets_period(table, sets) {
-        let moves = moves_of(alloc, table, sets, rows, news)?;
-        return move_all(alloc, image, moment, session, space, table, moves);
+    if sets_period(site.table, sets) {
+        let moves = moves_of(alloc, site.table, sets, rows, news)?;
+        return move_all(alloc, site, moves);
     }
     let count = rows.len() as u64;
-    let changes = replacing(alloc, table, within, rows, news)?;
-    write_all(alloc, image, moment, session, space, table, count, changes)
+    let changes = replacing(alloc, site.table, within, rows, news)?;
+    write_all(alloc, site, count, changes)
 }
 
 /// Writes what the sets make of the rows.
 fn replace_all(
     alloc: Global,
-    image: &Image,
-    moment: u64,
-    session: &Session,
-    space: &Space,
-    table: &Table,
+    site: Site<'_>,
     within: &Period,
     sets: &[Set],
     rows: &[Row],
 ) -> Result<Planned, Memory>
-    requires rules { keep_rules (parts_of image.now) ≡ true }
-    requires moment { moment < END }
-    requires there { table_of (parts_of image.now).tables table.now.number ≡ Some table.now }
-    requires on { table.now.versioned ≡ true }
-    requires home { space_of (parts_of image.now).spaces session.now.space ≡ Some space.now }
-    requires update { IsUpdate table.now (sets_view sets.now) }
-    requires stand { all_stand table.now rows.now ≡ true }
-    requires overlap { all_overlap table.now within.now rows.now ≡ true }
-    ensures does { IfOk result (DoesAs image.now moment session.now space.now (replace_all session.now.user table.now within.now (sets_view sets.now) rows.now (updated_rows table.now (sets_view sets.now) rows.now))) }
+    requires site { IsSite site }
+    requires update { IsUpdate site.table.now (sets_view sets.now) }
+    requires stand { all_stand site.table.now rows.now ≡ true }
+    requires overlap { all_overlap site.table.now within.now rows.now ≡ true }
+    ensures does { IfOk result (DoesAt site.entry (replace_all site.entry.session.now.user site.entry.table.now within.now (sets_view sets.now) rows.now (updated_rows site.entry.table.now (sets_view sets.now) rows.now))) }
     ensures idle { IfOk result Idles }
 {
-    let news = match updated_rows(alloc, table, sets, rows) {
+    let news = match updated_rows(alloc, site.table, sets, rows) {
         Ok(news) => news,
         Err(ValueFault::OutOfRange) => return Ok(Planned::answered(alloc, out_of_range())),
         Err(ValueFault::Memory) => return Err(Memory),
     };
-    if let Some(refusal) = rows_fault(alloc, table, news.as_slice())? {
+    if let Some(refusal) = rows_fault(alloc, site.table, news.as_slice())? {
         return Ok(Planned::answered(alloc, Answer::Refused(refusal)));
     }
-    change_all(
-        alloc, image, moment, session, space, table, within, sets, rows, news,
-    )
+    change_all(alloc, site, within, sets, rows, news)
 }
 
 /// Writes what the sets make of the rows. No text in them is empty in a state that the records stand for.
 fn update_rows(
     alloc: Global,
-    image: &Image,
-    moment: u64,
-    session: &Session,
-    space: &Space,
-    table: &Table,
+    site: Site<'_>,
     within: &Period,
     sets: &[Set],
     rows: &[Row],
 ) -> Result<Planned, Memory>
-    requires rules { keep_rules (parts_of image.now) ≡ true }
-    requires moment { moment < END }
-    requires there { table_of (parts_of image.now).tables table.now.number ≡ Some table.now }
-    requires on { table.now.versioned ≡ true }
-    requires home { space_of (parts_of image.now).spaces session.now.space ≡ Some space.now }
-    requires update { IsUpdate table.now (sets_view sets.now) }
-    requires keyed { are_keyed table.now rows.now ≡ true }
-    requires full { AreFull image.now moment session.now space.now rows.now }
-    requires overlap { all_overlap table.now within.now rows.now ≡ true }
-    ensures does { IfOk result (DoesAs image.now moment session.now space.now (replace_all session.now.user table.now within.now (sets_view sets.now) rows.now (updated_rows table.now (sets_view sets.now) rows.now))) }
+    requires site { IsSite site }
+    requires update { IsUpdate site.table.now (sets_view sets.now) }
+    requires keyed { are_keyed site.table.now rows.now ≡ true }
+    requires full { AreFull site.image.now site.moment site.session.now site.space.now rows.now }
+    requires overlap { all_overlap site.table.now within.now rows.now ≡ true }
+    ensures does { IfOk result (DoesAt site.entry (replace_all site.entry.session.now.user site.entry.table.now within.now (sets_view sets.now) rows.now (updated_rows site.entry.table.now (sets_view sets.now) rows.now))) }
     ensures idle { IfOk result Idles }
 {
     if !are_filled(rows) {
         return Ok(Planned::answered(alloc, not_built()));
     }
-    replace_all(
-        alloc, image, moment, session, space, table, within, sets, rows,
-    )
+    replace_all(alloc, site, within, sets, rows)
 }
 
 /// UPDATE writes a new row for each on which the condition is true.
@@ -290,15 +252,12 @@ pub fn update(
     let within = within(moment, session, table);
     let version = image.latest(session.space());
     let rows = chosen_rows(alloc, image, version, table, &within, filter)?;
-    update_rows(
-        alloc,
+    let site = Site {
         image,
         moment,
         session,
         space,
         table,
-        &within,
-        sets,
-        rows.as_slice(),
-    )
+    };
+    update_rows(alloc, site, &within, sets, rows.as_slice())
 }

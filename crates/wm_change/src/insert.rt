@@ -3,12 +3,12 @@ ghost use Rattle.std.specs.Prelude.{◌≡◌, ◌<◌, List, [], ◌∷◌, tru
 ghost use Rattle.std.specs.List.{list_all};
 ghost use Rattle.wm_base.specs.declared.instant.TheConstants.{END};
 ghost use Rattle.wm_base.specs.Views.{exprs_view};
-ghost use Rattle.wm_change.specs.Acting.{DoesAs};
+ghost use Rattle.wm_change.specs.Acting.{DoesAs, DoesAt, IsSite};
 ghost use Rattle.wm_chosen.specs.Chosen.{is_keyed_row};
 ghost use Rattle.wm_plan.specs.Idle.{Idles};
 ghost use Rattle.wm_change.specs.Inserting.{IsFine};
 ghost use Rattle.wm_plan.specs.Planning.{DoesIt};
-ghost use Rattle.wm_graph.specs.Parts.{parts_of, space_of, table_of};
+ghost use Rattle.wm_graph.specs.Parts.{parts_of, space_of};
 ghost use Rattle.wm_graph.specs.Rules.{keep_rules};
 ghost use Rattle.wm_making.specs.Rows.{is_filled, row_of};
 ghost use Rattle.wm_model.specs.Planning.{IsOpen};
@@ -16,6 +16,7 @@ ghost use Rattle.wm_model.specs.Step.{add_found, add_to, insert, new_period, tol
 ghost use Rattle.wm_spec.specs.Expressions.{has_no_empty_period};
 ghost use Rattle.wm_state.specs.State.{Session as SessionState};
 
+use crate::site::Site;
 use crate::write_all::write_all;
 use std::alloc::Global;
 use wm_base::tree::column::Names;
@@ -73,36 +74,26 @@ fn alone(alloc: Global, change: RowChange) -> Result<Vec<RowChange>, Memory>
 }
 
 /// Adds a row, where no row of its key stands.
-fn add_to(
-    alloc: Global,
-    image: &Image,
-    moment: u64,
-    session: &Session,
-    space: &Space,
-    table: &Table,
-    period: Period,
-    row: Values,
-) -> Result<Planned, Memory>
-    requires rules { keep_rules (parts_of image.now) ≡ true }
-    requires moment { moment < END }
-    requires there { table_of (parts_of image.now).tables table.now.number ≡ Some table.now }
-    requires on { table.now.versioned ≡ true }
-    requires home { space_of (parts_of image.now).spaces session.now.space ≡ Some space.now }
-    requires keyed { is_keyed_row table.now row ≡ true }
+fn add_to(alloc: Global, site: Site<'_>, period: Period, row: Values) -> Result<Planned, Memory>
+    requires site { IsSite site }
+    requires keyed { is_keyed_row site.table.now row ≡ true }
     requires filled { list_all is_filled row ≡ true }
-    ensures does { IfOk result (DoesAs image.now moment session.now space.now (add_to session.now.user table.now period row)) }
+    ensures does { IfOk result (DoesAt site.entry (add_to site.entry.session.now.user site.entry.table.now period row)) }
     ensures idle { IfOk result Idles }
 {
     let _till = period.till();
-    let change = added(alloc, table, &period, row)?;
-    let version = image.latest(session.space());
-    let shared = image.overlap(alloc, version, table.number, &change.key, &period)?;
+    let change = added(alloc, site.table, &period, row)?;
+    let version = site.image.latest(site.session.space());
+    let number = site.table.number;
+    let shared = site
+        .image
+        .overlap(alloc, version, number, &change.key, &period)?;
     if let Some(shared) = shared {
-        let told = told_period(table, shared);
+        let told = told_period(site.table, shared);
         return Ok(Planned::answered(alloc, key_there(change.key, told)));
     }
     let changes = alone(alloc, change)?;
-    write_all(alloc, image, moment, session, space, table, 1, changes)
+    write_all(alloc, site, 1, changes)
 }
 
 /// Adds the row of a statement that is in order, unless something is wrong with the row.
@@ -132,7 +123,14 @@ fn add_row(
         return Ok(Planned::answered(alloc, Answer::Refused(refusal)));
     }
     let period = new_period(session, insertion);
-    add_to(alloc, image, moment, session, space, table, period, row)
+    let site = Site {
+        image,
+        moment,
+        session,
+        space,
+        table,
+    };
+    add_to(alloc, site, period, row)
 }
 
 /// Adds the row of a statement that is in order, in the workspace that the session stands in at what is newest.

@@ -4,5 +4,6 @@
 pub mod change;
 pub mod insert;
 mod moving;
+mod site;
 mod write_all;
 mod write_changes;

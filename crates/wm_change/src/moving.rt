@@ -2,18 +2,18 @@
 ghost use Rattle.std.specs.Prelude.{◌≡◌, ◌<◌, true, List, Some, IfOk};
 ghost use Rattle.std.specs.List.{list_all};
 ghost use Rattle.std.specs.Option.{option_copied, option_map};
-ghost use Rattle.wm_base.specs.declared.instant.TheConstants.{END};
 ghost use Rattle.wm_dml.specs.declared.moving.Move.{Move as MoveOf};
 ghost use Rattle.wm_dml.specs.Moving.{moved_row};
 ghost use Rattle.wm_dml.specs.Standing.{is_change};
-ghost use Rattle.wm_change.specs.Acting.{DoesAs};
+ghost use Rattle.wm_change.specs.Acting.{DoesAt, IsSite};
 ghost use Rattle.wm_change.specs.Changing.{is_filled_change};
 ghost use Rattle.wm_plan.specs.Idle.{Idles};
 ghost use Rattle.wm_change.specs.Moved.{AreShifts, Finds, NoneAt};
-ghost use Rattle.wm_graph.specs.Parts.{parts_of, space_of, table_of};
+ghost use Rattle.wm_graph.specs.Parts.{parts_of};
 ghost use Rattle.wm_graph.specs.Rules.{keep_rules};
 ghost use Rattle.wm_model.specs.Step.{clash_at, first_clash, move_all};
 
+use crate::site::Site;
 use crate::write_all::write_all;
 use std::alloc::Global;
 use wm_base::{Key, Memory, Period};
@@ -21,8 +21,7 @@ use wm_dml::{Move, Shifts, clash_in, moved};
 use wm_image::Image;
 use wm_plan::planned::Planned;
 use wm_plan::refuse::key_there;
-use wm_plan::session::Session;
-use wm_spec::record::{Space, Table};
+use wm_spec::record::Table;
 
 /// The earliest part that a new period of a key shares with a row that stays, or with another new one.
 fn clash_at(
@@ -89,32 +88,27 @@ fn first_clash(
 }
 
 /// Writes rows over new periods, where no other row of their keys stands.
-pub fn move_all(
-    alloc: Global,
-    image: &Image,
-    moment: u64,
-    session: &Session,
-    space: &Space,
-    table: &Table,
-    moves: Vec<Move>,
-) -> Result<Planned, Memory>
-    requires rules { keep_rules (parts_of image.now) ≡ true }
-    requires moment { moment < END }
-    requires there { table_of (parts_of image.now).tables table.now.number ≡ Some table.now }
-    requires on { table.now.versioned ≡ true }
-    requires home { space_of (parts_of image.now).spaces session.now.space ≡ Some space.now }
-    requires fit { list_all (λ (m : MoveOf). is_change table.now (moved_row m)) moves.items ≡ true }
+pub fn move_all(alloc: Global, site: Site<'_>, moves: Vec<Move>) -> Result<Planned, Memory>
+    requires site { IsSite site }
+    requires fit { list_all (λ (m : MoveOf). is_change site.table.now (moved_row m)) moves.items ≡ true }
     requires filled { list_all (λ (m : MoveOf). is_filled_change (moved_row m)) moves.items ≡ true }
-    ensures does { IfOk result (DoesAs image.now moment session.now space.now (move_all session.now.user table.now moves.items)) }
+    ensures does { IfOk result (DoesAt site.entry (move_all site.entry.session.now.user site.entry.table.now moves.items)) }
     ensures idle { IfOk result Idles }
 {
-    let version = image.latest(session.space());
+    let version = site.image.latest(site.session.space());
     let shifts = Shifts::of_moves(alloc, moves.as_slice())?;
-    let clash = first_clash(alloc, image, version, table, moves.as_slice(), &shifts)?;
+    let clash = first_clash(
+        alloc,
+        site.image,
+        version,
+        site.table,
+        moves.as_slice(),
+        &shifts,
+    )?;
     if let Some((key, shared)) = clash {
         return Ok(Planned::answered(alloc, key_there(key, Some(shared))));
     }
     let count = moves.len() as u64;
     let changes = moved(alloc, moves, &shifts)?;
-    write_all(alloc, image, moment, session, space, table, count, changes)
+    write_all(alloc, site, count, changes)
 }

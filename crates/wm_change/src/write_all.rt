@@ -1,27 +1,23 @@
 //! Changes of rows, once nothing is wrong with them.
-ghost use Rattle.std.specs.Prelude.{◌≡◌, ◌<◌, ◌+◌, nat_le, nat_lt, true, [], Some, IfOk};
+ghost use Rattle.std.specs.Prelude.{◌≡◌, ◌+◌, nat_le, nat_lt, true, [], IfOk};
 ghost use Rattle.std.specs.List.{list_all};
-ghost use Rattle.wm_base.specs.declared.instant.TheConstants.{END};
 ghost use Rattle.wm_dml.specs.Standing.{change_keys, change_lasts, is_change};
-ghost use Rattle.wm_change.specs.Acting.{DoesAs};
+ghost use Rattle.wm_change.specs.Acting.{DoesAt, IsSite};
 ghost use Rattle.wm_change.specs.Changing.{is_filled_change};
 ghost use Rattle.wm_plan.specs.Idle.{Idles};
-ghost use Rattle.wm_graph.specs.Parts.{parts_of, space_of, table_of};
-ghost use Rattle.wm_graph.specs.Rules.{keep_rules};
 ghost use Rattle.wm_model.specs.Step.{counter_limit, write_ascending};
 ghost use Rattle.wm_state.specs.Drawing.{are_sorted};
 
+use crate::site::Site;
 use crate::write_changes::{Writing, write_changes};
 use std::alloc::Global;
 use std::cmp::Ordering;
 use wm_base::{Key, Memory};
 use wm_dml::RowChange;
-use wm_image::Image;
 use wm_plan::answer::Answer;
 use wm_plan::planned::Planned;
 use wm_plan::refuse::{at_its_end, change_limit, not_built};
-use wm_plan::session::Session;
-use wm_spec::record::{Counters, Space, Table};
+use wm_spec::record::{Counters, Space};
 
 /// The greatest length of a log.
 const LOG_LIMIT: u64 = 1 << 62;
@@ -60,24 +56,16 @@ fn is_log_spent(space: &Space, count: u64) -> bool
 /// Writes the changes, if there are any, while changes are left, and answers that so many rows are changed.
 pub fn write_all(
     alloc: Global,
-    image: &Image,
-    moment: u64,
-    session: &Session,
-    space: &Space,
-    table: &Table,
+    site: Site<'_>,
     rows_changed: u64,
     changes: Vec<RowChange>,
 ) -> Result<Planned, Memory>
-    requires rules { keep_rules (parts_of image.now) ≡ true }
-    requires moment { moment < END }
-    requires there { table_of (parts_of image.now).tables table.now.number ≡ Some table.now }
-    requires on { table.now.versioned ≡ true }
-    requires home { space_of (parts_of image.now).spaces session.now.space ≡ Some space.now }
-    requires fit { list_all (is_change table.now) changes.items ≡ true }
+    requires site { IsSite site }
+    requires fit { list_all (is_change site.table.now) changes.items ≡ true }
     requires last { list_all change_lasts changes.items ≡ true }
     requires filled { list_all is_filled_change changes.items ≡ true }
     requires counted { rows_changed ≡ 0 → changes.items ≡ [] }
-    ensures does { IfOk result (DoesAs image.now moment session.now space.now (write_ascending session.now.user table.now rows_changed changes.items)) }
+    ensures does { IfOk result (DoesAt site.entry (write_ascending site.entry.session.now.user site.entry.table.now rows_changed changes.items)) }
     ensures idle { IfOk result Idles }
 {
     if !are_sorted(changes.as_slice()) {
@@ -87,18 +75,25 @@ pub fn write_all(
     if count == 0 {
         return Ok(Planned::answered(alloc, Answer::Done(0)));
     }
-    let counters = image.counters();
+    let counters = site.image.counters();
     if !are_left(&counters, count) {
         return Ok(Planned::answered(alloc, change_limit(counters.limit)));
     }
-    if is_log_spent(space, count) {
+    if is_log_spent(site.space, count) {
         return Ok(Planned::answered(alloc, at_its_end(alloc, b"LOG")?));
     }
     let writing = Writing {
-        table,
-        space,
+        table: site.table,
+        space: site.space,
         counters,
         rows_changed,
     };
-    write_changes(alloc, image, moment, session, &writing, changes)
+    write_changes(
+        alloc,
+        site.image,
+        site.moment,
+        site.session,
+        &writing,
+        changes,
+    )
 }

@@ -1,7 +1,8 @@
 -- The ids of records that pass a test, and of those that go.
-use Rattle.std.proofs.Common.{◌≡◌, ◌≢◌, ℕ, Bool, true, false, cond, ◌&&◌, ◌||◌, List, [], ◌∷◌, Option, Some, None, refl, sym, ap, ◌∙◌, subst, ◌⊎◌, inl, inr, arith}
+use Rattle.std.proofs.Common.{◌≡◌, ◌≢◌, ℕ, Bool, true, false, cond, ◌&&◌, ◌||◌, List, [], ◌∷◌, Option, Some, refl, sym, ap, ◌∙◌, subst, ◌⊎◌, inl, inr, arith}
 use Rattle.std.proofs.lemmas.Bool.{cases_eq, eq-eqb, ne_eqb}
 use Rattle.std.specs.List.{filter}
+use Rattle.wm_base.proofs.Plain.{none_some}
 use Rattle.wm_spec.specs.Records.{record_at, ids_differ}
 use Rattle.wm_spec.specs.declared.record.Record.{Record}
 use Rattle.wm_spec.specs.declared.record.stored.Stored.{Stored}
@@ -9,9 +10,6 @@ use Rattle.wm_state.specs.Batches.{is_dropped}
 use Rattle.wm_state.specs.ById.{AllAbove, Ascend}
 use Rattle.wm_index.proofs.Lists.{record_at-none, record_at-here, record_at-away}
 use Rattle.wm_index.specs.Sought.{ids_with}
-
-pub none_some : (o : Option Record) (r : Record) → o ≡ None → o ≡ Some r → ⊥
-none_some o r none some = cc
 
 one_record : (o : Option Record) (q r : Record) → o ≡ Some q → o ≡ Some r → q ≡ r
 one_record o q r e f = cc

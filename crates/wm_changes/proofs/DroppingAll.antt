@@ -1,13 +1,14 @@
 -- Ids that go, one list behind another.
-use Rattle.std.proofs.Common.{◌≡◌, ℕ, ◌==◌, Bool, true, false, ◌||◌, cond, if◌then◌else◌, List, [], ◌∷◌, ◌++◌, None, is_some, refl, sym, ap, ◌∙◌, ◌⊎◌, inl, inr, ◌≢◌, arith}
-use Rattle.std.proofs.lemmas.Bool.{cases_eq, ne_eqb}
+use Rattle.std.proofs.Common.{◌≡◌, ℕ, ◌==◌, Bool, true, false, ◌||◌, cond, List, [], ◌∷◌, ◌++◌, None, is_some, refl, sym, ap, ◌∙◌, ◌⊎◌, inl, inr, ◌≢◌}
+use Rattle.std.proofs.lemmas.Bool.{cases_eq, ne_eqb, and_from, or_from, or_right, eq-eqb}
+use Rattle.std.proofs.Math.Bool.{or_assoc}
 use Rattle.std.specs.List.{list_all}
+use Rattle.wm_base.proofs.Plain.{none_some, unless_parts}
 use Rattle.wm_spec.specs.Records.{record_at, ids_differ}
 use Rattle.wm_spec.specs.declared.record.Record.{Record}
 use Rattle.wm_spec.specs.declared.record.stored.Stored.{Stored}
 use Rattle.wm_state.specs.Batches.{is_dropped}
-use Rattle.wm_state.proofs.Tests.{all_if, and_true, bool_apart}
-use Rattle.wm_changes.proofs.Dropping.{none_some}
+use Rattle.wm_state.proofs.Tests.{all_if}
 use Rattle.wm_index.proofs.Lists.{record_at-here, record_at-away}
 use Rattle.wm_index.specs.Sought.{ids_with}
 
@@ -15,11 +16,7 @@ use Rattle.wm_index.specs.Sought.{ids_with}
 
 pub dropped-append : (xs ys : List ℕ) (id : ℕ) → is_dropped (xs ++ ys) id ≡ (is_dropped xs id || is_dropped ys id)
 dropped-append [] ys id = refl
-dropped-append (x ∷ xs) ys id = ap (λ b. (x == id) || b) (dropped-append xs ys id) ∙ or_assoc (x == id) (is_dropped xs id) (is_dropped ys id)
-  where
-    or_assoc : (a b c : Bool) → (a || (b || c)) ≡ ((a || b) || c)
-    or_assoc true b c = refl
-    or_assoc false b c = refl
+dropped-append (x ∷ xs) ys id = ap (λ b. (x == id) || b) (dropped-append xs ys id) ∙ sym (or_assoc (x == id) (is_dropped xs id) (is_dropped ys id))
 
 -- ---- no id is there twice
 
@@ -46,27 +43,13 @@ there_all p (s ∷ ss) = by_test (p s.record) (all_if (λ id. is_some (record_at
     by_id id (inr away) is = ap is_some (record_at-away s ss id away) ∙ is
 
     by_test : (b : Bool) → list_all (λ id. is_some (record_at (s ∷ ss) id)) (ids_with p ss) ≡ true → list_all (λ id. is_some (record_at (s ∷ ss) id)) (cond b (s.id ∷ ids_with p ss) (ids_with p ss)) ≡ true
-    by_test true rest = and_true (is_some (record_at (s ∷ ss) s.id)) (list_all (λ id. is_some (record_at (s ∷ ss) id)) (ids_with p ss)) (ap is_some (record_at-here s ss s.id refl)) rest
+    by_test true rest = and_from (is_some (record_at (s ∷ ss) s.id)) (list_all (λ id. is_some (record_at (s ∷ ss) id)) (ids_with p ss)) (ap is_some (record_at-here s ss s.id refl)) rest
     by_test false rest = rest
-
-pub split_if : (a b : Bool) → (if a then false else b) ≡ true → (a ≡ false) × (b ≡ true)
-split_if true b e = absurd (bool_apart (sym e))
-split_if false b e = (refl, e)
 
 pub differ-append : (xs ys : List ℕ) → ids_differ xs ≡ true → ids_differ ys ≡ true → ((id : ℕ) → is_dropped xs id ≡ true → is_dropped ys id ≡ false) → ids_differ (xs ++ ys) ≡ true
 unfolding ids_differ
 differ-append [] ys differ_xs differ_ys apart = differ_ys
 differ-append (x ∷ xs) ys differ_xs differ_ys apart =
-    let h = split_if (is_dropped xs x) (ids_differ xs) differ_xs in
-    rw (dropped-append xs ys x ∙ or_false (is_dropped xs x) (is_dropped ys x) h.0 (apart x (ap (λ b. b || is_dropped xs x) (itself x))))
-    (differ-append xs ys h.1 differ_ys (λ id is. apart id (or_true (x == id) (is_dropped xs id) is)))
-  where
-    or_false : (a b : Bool) → a ≡ false → b ≡ false → (a || b) ≡ false
-    or_false a b e f = rw (e, f) refl
-
-    or_true : (a b : Bool) → b ≡ true → (a || b) ≡ true
-    or_true true b e = refl
-    or_true false b e = e
-
-    itself : (n : ℕ) → (n == n) ≡ true
-    itself n = grind arith
+    let h = unless_parts (is_dropped xs x) (ids_differ xs) differ_xs in
+    rw (dropped-append xs ys x ∙ or_from (is_dropped xs x) (is_dropped ys x) h.0 (apart x (ap (λ b. b || is_dropped xs x) (eq-eqb x x refl))))
+    (differ-append xs ys h.1 differ_ys (λ id is. apart id (or_right (x == id) (is_dropped xs id) is)))

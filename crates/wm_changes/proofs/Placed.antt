@@ -1,7 +1,9 @@
 -- Where the records stand that an edit is about.
 use Rattle.std.proofs.Common.{◌≡◌, ℕ, ◌+◌, ◌-◌, ◌<◌, ◌≤◌, ◌^◌, ◌&&◌, nat_le, nat_lt, Bool, true, false, is_some, List, [], ◌∷◌, Option, Some, None, Bor, refl, sym, ap, ◌∙◌, arith}
 use Rattle.std.proofs.lemmas.Bool.Decides.{nat_tests}
+use Rattle.std.proofs.lemmas.Bool.{and_parts}
 use Rattle.std.specs.Option.{option_and_then, option_copied, option_to_list}
+use Rattle.wm_base.proofs.Plain.{none_some}
 use Rattle.wm_base.specs.declared.instant.TheConstants.{END}
 use Rattle.wm_graph.specs.Parts.{Parts, parts_of, as_counters, as_space, as_table, space_of}
 use Rattle.wm_graph.specs.Rules.{keep_rules}
@@ -15,8 +17,7 @@ use Rattle.wm_spec.specs.declared.record.table.Table.{Table}
 use Rattle.wm_state.specs.ById.{Ascend}
 use Rattle.wm_state.proofs.Counting.{counted_well}
 use Rattle.wm_written.proofs.Ids.{under_next}
-use Rattle.wm_state.proofs.Settled.{Places}
-use Rattle.wm_state.proofs.Tests.{both}
+use Rattle.wm_state.proofs.Settled.{Places, space_at}
 use Rattle.wm_changes.specs.Ids.{HasGreatId}
 
 -- the id of the counters has them
@@ -38,35 +39,13 @@ counters_at c cs (Some _) one is = absurd (none_one (sym is ∙ one))
 pub table_at : (rs : List Stored) (o : Option ℕ) (id : ℕ) (t : Table) → o ≡ Some id → option_and_then as_table (option_and_then (record_at rs) o) ≡ Some t → record_at rs id ≡ Some (records.Table t)
 table_at rs o id t is found = by_record (record_at rs id) (ap (λ (k : Option ℕ). option_and_then as_table (option_and_then (record_at rs) k)) (sym is) ∙ found)
   where
-    none_some : (x : Option Table) → x ≡ None → x ≡ Some t → ⊥
-    none_some x none some = cc
-
     some_table : (u : Table) → Some u ≡ Some t → u ≡ t
     some_table u h = cc
 
     by_record : (r : Option Record) → option_and_then as_table r ≡ Some t → r ≡ Some (records.Table t)
-    by_record None h = absurd (none_some (let none : Option Table = None in none) refl h)
+    by_record None h = absurd (none_some (let none : Option Table = None in none) t refl h)
     by_record (Some (records.Table u)) h = ap (λ (s : Table). Some (records.Table s)) (some_table u h)
-    by_record (Some _) h = absurd (none_some (let none : Option Table = None in none) refl h)
-
--- the id of a workspace has it
-pub space_at : (rs : List Stored) (n : ℕ) (o : Option ℕ) (id : ℕ) (a : Space) → o ≡ Some id → option_and_then as_space (option_and_then (record_at rs) o) ≡ space_of (parts_of rs).spaces n → space_of (parts_of rs).spaces n ≡ Some a
-    → record_at rs id ≡ Some (records.Space a)
-space_at rs n o id a is there found = by_record (record_at rs id) refl (ap (λ (k : Option ℕ). option_and_then as_space (option_and_then (record_at rs) k)) (sym is) ∙ there ∙ found)
-  where
-    by_record : (r : Option Record) → record_at rs id ≡ r → option_and_then as_space r ≡ Some a → r ≡ Some (records.Space a)
-    by_record None e h = absurd (none_some (let none : Option Space = None in none) refl h)
-      where
-        none_some : (x : Option Space) → x ≡ None → x ≡ Some a → ⊥
-        none_some x none some = cc
-    by_record (Some (records.Space b)) e h = ap (λ (s : Space). Some (records.Space s)) (some_space b h)
-      where
-        some_space : (b : Space) → Some b ≡ Some a → b ≡ a
-        some_space b h = cc
-    by_record (Some _) e h = absurd (none_some (let none : Option Space = None in none) refl h)
-      where
-        none_some : (x : Option Space) → x ≡ None → x ≡ Some a → ⊥
-        none_some x none some = cc
+    by_record (Some _) h = absurd (none_some (let none : Option Table = None in none) t refl h)
 
 -- the counters and a workspace that were looked up have their ids, and all ids are under the next
 pub places_of : (rs : List Stored) (n counters_id : ℕ) (o : Option ℕ) (space_id id : ℕ) (c : Counters) (a : Space) → Ascend rs → (parts_of rs).counters ≡ c ∷ []
@@ -87,9 +66,9 @@ looked_up r b o is same = sym same ∙ ap option_copied is
 -- the version after the next can be told
 pub version_fits : (p : Parts) (c : Counters) → keep_rules p ≡ true → p.counters ≡ c ∷ [] → c.next_version + 1 < 2 ^ 64
 version_fits p c rules one =
-    let h = both ((nat_le 1 c.limit && nat_le c.limit 1048576) && (nat_le 1 c.next_stamp && nat_le c.next_stamp (c.limit + 1))) _ (counted_well p c rules one) in
-    let g = both (nat_lt c.last_moment END) (nat_le c.work (2 ^ 62) && nat_le c.next_version (c.work + 2)) h.1 in
-    let k = both (nat_le c.work (2 ^ 62)) (nat_le c.next_version (c.work + 2)) g.1 in
+    let h = and_parts ((nat_le 1 c.limit && nat_le c.limit 1048576) && (nat_le 1 c.next_stamp && nat_le c.next_stamp (c.limit + 1))) _ (counted_well p c rules one) in
+    let g = and_parts (nat_lt c.last_moment END) (nat_le c.work (2 ^ 62) && nat_le c.next_version (c.work + 2)) h.1 in
+    let k = and_parts (nat_le c.work (2 ^ 62)) (nat_le c.next_version (c.work + 2)) g.1 in
     fits c.next_version c.work k.0 k.1
   where
     fits : (v w : ℕ) → nat_le w (2 ^ 62) ≡ true → nat_le v (w + 2) ≡ true → v + 1 < 2 ^ 64

@@ -1,6 +1,7 @@
 -- A condition is true on no row whose value in a column is another than the constant that it asks of the column.
 use Rattle.std.proofs.Common.{◌≡◌, ℕ, ◌<◌, Bool, true, false, if◌then◌else◌, List, [], ◌∷◌, length, nat_lt, get_or, slice_get, Option, Some, None, Result, Ok, Err, IfOk, IfSome, option_and_then, option_map, unwrap_or, refl, sym, ap, ◌∙◌, arith}
-use Rattle.std.proofs.lemmas.Bool.{eqb-true}
+use Rattle.std.proofs.lemmas.Bool.{eqb-true, true≢false}
+use Rattle.std.proofs.lemmas.Option.{none-some, same_Some}
 use Rattle.std.specs.List.{position}
 use Rattle.std.specs.Option.{option_or}
 use Rattle.std.specs.Ordering.{is_eq}
@@ -8,7 +9,6 @@ use Rattle.std.specs.declared.cmp.Ordering.{Ordering}
 use Rattle.std.specs.declared.cmp.Ordering.TheVariants.{Less, Equal, Greater}
 use Rattle.wm_base.specs.Orders.{value_order-equal}
 use Rattle.wm_base.specs.Trees.{Cond, Or, And, Not, Compare, IsNull, OneOf, Between}
-use Rattle.wm_base.specs.Truth.{truth_and}
 use Rattle.wm_base.specs.declared.columns.Column.{Column}
 use Rattle.wm_base.specs.declared.memory.Memory.{Memory}
 use Rattle.wm_base.specs.declared.tree.column.Col.{Col}
@@ -17,8 +17,6 @@ use Rattle.wm_base.specs.declared.tree.cond.Cmp.TheVariants.{Eq, NotEq, BangEq, 
 use Rattle.wm_base.specs.declared.tree.constant.Const.{Const}
 use Rattle.wm_base.specs.declared.tree.operand.Operand.{Operand}
 use Rattle.wm_base.specs.declared.tree.operand.Operand.TheVariants as operands
-use Rattle.wm_base.specs.declared.truth.Truth.{Truth}
-use Rattle.wm_base.specs.declared.truth.Truth.TheVariants.{Yes, No, Unknown}
 use Rattle.wm_base.specs.declared.value.Value.{Value}
 use Rattle.wm_base.specs.declared.value.Value.TheVariants as values
 use Rattle.wm_dml.specs.Changing.{own_columns}
@@ -26,36 +24,36 @@ use Rattle.wm_graph.specs.Rules.{key_of, values_at}
 use Rattle.wm_spec.specs.Conditions.{is_yes, test, truth_if, truth_in, truth_of}
 use Rattle.wm_spec.specs.Operands.{constant_value, is_named, operand_value, suffixed}
 use Rattle.wm_spec.specs.declared.record.table.Table.{Table}
-use Rattle.wm_state.proofs.Tests.{bool_apart}
 use Rattle.wm_chosen.specs.Keyed.{FixesKey, across, asked, is_place, stands_at}
+use Rattle.wm_select.proofs.EqualLemmas.{both_yes}
 
 -- ---- equal values are one, and none of them is NULL
 
 yes_equal : (o : Ordering) → is_yes (truth_if (is_eq o)) ≡ true → o ≡ Equal
-yes_equal Less e = absurd (bool_apart (sym e))
+yes_equal Less e = absurd (true≢false (sym e))
 yes_equal Equal e = refl
-yes_equal Greater e = absurd (bool_apart (sym e))
+yes_equal Greater e = absurd (true≢false (sym e))
 
 equal_values : (v w : Value) → is_yes (test Eq v w) ≡ true → v ≡ w
 equal_values (values.Num m) (values.Num n) e = value_order-equal (values.Num m) (values.Num n) (yes_equal _ e)
 equal_values (values.Text s) (values.Text t) e = value_order-equal (values.Text s) (values.Text t) (yes_equal _ e)
 equal_values (values.Time i) (values.Time j) e = value_order-equal (values.Time i) (values.Time j) (yes_equal _ e)
 equal_values (values.Span p) (values.Span q) e = value_order-equal (values.Span p) (values.Span q) (yes_equal _ e)
-equal_values values.Null _ e = absurd (bool_apart (sym e))
-equal_values (values.Num m) _ e = absurd (bool_apart (sym e))
-equal_values (values.Text s) _ e = absurd (bool_apart (sym e))
-equal_values (values.Time i) _ e = absurd (bool_apart (sym e))
-equal_values (values.Span p) _ e = absurd (bool_apart (sym e))
+equal_values values.Null _ e = absurd (true≢false (sym e))
+equal_values (values.Num m) _ e = absurd (true≢false (sym e))
+equal_values (values.Text s) _ e = absurd (true≢false (sym e))
+equal_values (values.Time i) _ e = absurd (true≢false (sym e))
+equal_values (values.Span p) _ e = absurd (true≢false (sym e))
 
 null_unequal : (v : Value) → is_yes (test Eq values.Null v) ≡ true → ⊥
-null_unequal v e = bool_apart (sym e)
+null_unequal v e = true≢false (sym e)
 
 unequal_null : (v : Value) → is_yes (test Eq v values.Null) ≡ true → ⊥
-unequal_null values.Null e = bool_apart (sym e)
-unequal_null (values.Num n) e = bool_apart (sym e)
-unequal_null (values.Text t) e = bool_apart (sym e)
-unequal_null (values.Time i) e = bool_apart (sym e)
-unequal_null (values.Span p) e = bool_apart (sym e)
+unequal_null values.Null e = true≢false (sym e)
+unequal_null (values.Num n) e = true≢false (sym e)
+unequal_null (values.Text t) e = true≢false (sym e)
+unequal_null (values.Time i) e = true≢false (sym e)
+unequal_null (values.Span p) e = true≢false (sym e)
 
 -- the value that is found is the one that an equation with it asks for
 found_left : (o : Option Value) (v : Value) → is_yes (test Eq (unwrap_or o values.Null) v) ≡ true → o ≡ Some v
@@ -68,12 +66,6 @@ found_right (Some w) v e = ap (λ (x : Value). Some x) (sym (equal_values v w e)
 
 -- ---- a column that stands at a place
 
-pub none_some : {A : Type 0} (x : A) → None ≡ Some x → ⊥
-none_some x e = cc
-
-some_same : {A : Type 0} (x y : A) → Some x ≡ Some y → x ≡ y
-some_same x y e = cc
-
 -- its value is what the row has at the place
 value_there : (columns : List Column) (place : ℕ) (col : Col) (row : List Value) → stands_at columns place col ≡ true → operand_value (operands.Col col) columns row ≡ unwrap_or (slice_get row place) values.Null
 value_there columns place col row e = by_cases col.suffix (position (λ column. is_named col.source col.name column) columns) e
@@ -81,8 +73,8 @@ value_there columns place col row e = by_cases col.suffix (position (λ column. 
     by_cases : (suffix : Option Suffix) (found : Option ℕ) → is_place place suffix found ≡ true
         → suffixed suffix (unwrap_or (option_and_then (λ p. slice_get row p) found) values.Null) ≡ unwrap_or (slice_get row place) values.Null
     by_cases None (Some found) e = ap (λ p. unwrap_or (slice_get row p) values.Null) (eqb-true found place e)
-    by_cases None None e = absurd (bool_apart (sym e))
-    by_cases (Some suffix) found e = absurd (bool_apart (sym e))
+    by_cases None None e = absurd (true≢false (sym e))
+    by_cases (Some suffix) found e = absurd (true≢false (sym e))
 
 -- what an equation asks of it, on either side
 across_left : (columns : List Column) (place : ℕ) (side other : Operand) (constant : Const) (row : List Value) → across columns place side other ≡ Some constant
@@ -93,11 +85,11 @@ across_left columns place (operands.Col col) (operands.Const c) constant row is 
     by_test true there is =
         found_left (slice_get row place) (constant_value constant)
         (ap (λ (v : Value). is_yes (test Eq v (constant_value constant))) (sym (value_there columns place col row there))
-        ∙ ap (λ (k : Const). is_yes (test Eq (operand_value (operands.Col col) columns row) (constant_value k))) (sym (some_same c constant is)) ∙ e)
-    by_test false there is = absurd (none_some constant is)
-across_left columns place (operands.Col col) _ constant row is e = absurd (none_some constant is)
-across_left columns place (operands.Const c) other constant row is e = absurd (none_some constant is)
-across_left columns place (operands.Test operator left right) other constant row is e = absurd (none_some constant is)
+        ∙ ap (λ (k : Const). is_yes (test Eq (operand_value (operands.Col col) columns row) (constant_value k))) (sym (same_Some c constant is)) ∙ e)
+    by_test false there is = absurd (none-some constant is)
+across_left columns place (operands.Col col) _ constant row is e = absurd (none-some constant is)
+across_left columns place (operands.Const c) other constant row is e = absurd (none-some constant is)
+across_left columns place (operands.Test operator left right) other constant row is e = absurd (none-some constant is)
 
 across_right : (columns : List Column) (place : ℕ) (side other : Operand) (constant : Const) (row : List Value) → across columns place side other ≡ Some constant
     → is_yes (test Eq (operand_value other columns row) (operand_value side columns row)) ≡ true → slice_get row place ≡ Some (constant_value constant)
@@ -107,20 +99,13 @@ across_right columns place (operands.Col col) (operands.Const c) constant row is
     by_test true there is =
         found_right (slice_get row place) (constant_value constant)
         (ap (λ (v : Value). is_yes (test Eq (constant_value constant) v)) (sym (value_there columns place col row there))
-        ∙ ap (λ (k : Const). is_yes (test Eq (constant_value k) (operand_value (operands.Col col) columns row))) (sym (some_same c constant is)) ∙ e)
-    by_test false there is = absurd (none_some constant is)
-across_right columns place (operands.Col col) _ constant row is e = absurd (none_some constant is)
-across_right columns place (operands.Const c) other constant row is e = absurd (none_some constant is)
-across_right columns place (operands.Test operator left right) other constant row is e = absurd (none_some constant is)
+        ∙ ap (λ (k : Const). is_yes (test Eq (constant_value k) (operand_value (operands.Col col) columns row))) (sym (same_Some c constant is)) ∙ e)
+    by_test false there is = absurd (none-some constant is)
+across_right columns place (operands.Col col) _ constant row is e = absurd (none-some constant is)
+across_right columns place (operands.Const c) other constant row is e = absurd (none-some constant is)
+across_right columns place (operands.Test operator left right) other constant row is e = absurd (none-some constant is)
 
 -- ---- conditions
-
-both_yes : (a b : Truth) → is_yes (truth_and a b) ≡ true → (is_yes a ≡ true) × (is_yes b ≡ true)
-both_yes Yes b e = (refl, e)
-both_yes No b e = absurd (bool_apart (sym e))
-both_yes Unknown Yes e = absurd (bool_apart (sym e))
-both_yes Unknown No e = absurd (bool_apart (sym e))
-both_yes Unknown Unknown e = absurd (bool_apart (sym e))
 
 -- one of two, the first where it is there
 pub one_of_two : {A : Type 0} (P : Type 0) (a b : Option A) (x : A) → (a ≡ Some x → P) → (b ≡ Some x → P) → option_or a b ≡ Some x → P
@@ -137,17 +122,17 @@ asked_there columns place (And c d) constant row is e =
 asked_there columns place (Compare left Eq right) constant row is e =
     one_of_two (slice_get row place ≡ Some (constant_value constant)) (across columns place left right) (across columns place right left) constant
     (λ one. across_left columns place left right constant row one e) (λ two. across_right columns place right left constant row two e) is
-asked_there columns place (Compare left NotEq right) constant row is e = absurd (none_some constant is)
-asked_there columns place (Compare left BangEq right) constant row is e = absurd (none_some constant is)
-asked_there columns place (Compare left Lt right) constant row is e = absurd (none_some constant is)
-asked_there columns place (Compare left Le right) constant row is e = absurd (none_some constant is)
-asked_there columns place (Compare left Gt right) constant row is e = absurd (none_some constant is)
-asked_there columns place (Compare left Ge right) constant row is e = absurd (none_some constant is)
-asked_there columns place (Or c d) constant row is e = absurd (none_some constant is)
-asked_there columns place (Not c) constant row is e = absurd (none_some constant is)
-asked_there columns place (IsNull what negated) constant row is e = absurd (none_some constant is)
-asked_there columns place (OneOf what negated list) constant row is e = absurd (none_some constant is)
-asked_there columns place (Between what negated low high) constant row is e = absurd (none_some constant is)
+asked_there columns place (Compare left NotEq right) constant row is e = absurd (none-some constant is)
+asked_there columns place (Compare left BangEq right) constant row is e = absurd (none-some constant is)
+asked_there columns place (Compare left Lt right) constant row is e = absurd (none-some constant is)
+asked_there columns place (Compare left Le right) constant row is e = absurd (none-some constant is)
+asked_there columns place (Compare left Gt right) constant row is e = absurd (none-some constant is)
+asked_there columns place (Compare left Ge right) constant row is e = absurd (none-some constant is)
+asked_there columns place (Or c d) constant row is e = absurd (none-some constant is)
+asked_there columns place (Not c) constant row is e = absurd (none-some constant is)
+asked_there columns place (IsNull what negated) constant row is e = absurd (none-some constant is)
+asked_there columns place (OneOf what negated list) constant row is e = absurd (none-some constant is)
+asked_there columns place (Between what negated low high) constant row is e = absurd (none-some constant is)
 
 -- a list of one
 pub alone : (places : List ℕ) → 0 < length places → length places < 2 → places ≡ get_or places 0 0 ∷ []

@@ -2,7 +2,7 @@
 use Rattle.std.proofs.Common.{◌≡◌, ℕ, ◌+◌, ◌<◌, ◌≤◌, nat_lt, nat_le, ◌&&◌, true, List, [], ◌∷◌, ◌++◌, length, get_or, slice_get, Option, Some, None, Result, Ok, Err, IfOk, IfSome, append_assoc, arith, sym, ap, subst, ◌∙◌}
 use Rattle.std.proofs.lemmas.Bool.{and_parts}
 use Rattle.std.proofs.lemmas.List.{get_or_append_left, get_or-append-add}
-use Rattle.std.proofs.lemmas.Option.{get_or_from_slice_get, slice_get-get_or}
+use Rattle.std.proofs.lemmas.Option.{get_or_from_slice_get, slice_get-get_or, none-some}
 use Rattle.wm_base.specs.Trees.{Cond, Query, Src}
 use Rattle.wm_base.specs.declared.columns.Column.{Column}
 use Rattle.wm_base.specs.declared.memory.Memory.{Memory}
@@ -17,18 +17,18 @@ use Rattle.wm_select.specs.Tuples.{beside}
 use Rattle.wm_spec.specs.Conditions.{truth_of}
 use Rattle.wm_spec.specs.Operands.{constant_value}
 use Rattle.wm_spec.specs.declared.record.table.Table.{Table}
-use Rattle.wm_chosen.proofs.KeyAsked.{asked_there, key_there, none_some, one_of_two}
+use Rattle.wm_chosen.proofs.KeyAsked.{asked_there, key_there, one_of_two}
 use Rattle.wm_chosen.specs.Keyed.{FixesKeyAt, asked_by, asked_if, asked_on}
 
 asked_met : (columns : List Column) (place : ℕ) (filter : Option Cond) (constant : Const) (row : Row) → asked_if columns place filter ≡ Some constant → meets filter columns row ≡ true
     → slice_get row.values place ≡ Some (constant_value constant)
 unfolding truth_of
-asked_met columns place None constant row is e = absurd (none_some constant is)
+asked_met columns place None constant row is e = absurd (none-some constant is)
 asked_met columns place (Some condition) constant row is e = asked_there columns place condition constant row.values is e
 
 asked_joined : (columns : List Column) (place : ℕ) (sources : List Src) (constant : Const) (row : Row) → asked_on columns place sources ≡ Some constant → meets_each sources columns row ≡ true
     → slice_get row.values place ≡ Some (constant_value constant)
-asked_joined columns place [] constant row is e = absurd (none_some constant is)
+asked_joined columns place [] constant row is e = absurd (none-some constant is)
 asked_joined columns place (x ∷ xs) constant row is e =
     let h = and_parts (meets x.on columns row) (meets_each xs columns row) e in
     one_of_two (slice_get row.values place ≡ Some (constant_value constant)) (asked_if columns place x.on) (asked_on columns place xs) constant

@@ -3,9 +3,9 @@ use Rattle.std.proofs.Common.{◌≡◌, ℕ, ◌||◌, Bool, true, false, cond,
 use Rattle.std.specs.Prelude.{IfSome}
 use Rattle.std.proofs.lemmas.List.{append-nil}
 use Rattle.std.proofs.lemmas.List.Elements.{filter-append, filter_map-append}
+use Rattle.std.proofs.lemmas.Bool.{and_parts, or_parts, true≢false}
 use Rattle.std.specs.List.{filter, filter_map, list_all}
 use Rattle.std.specs.Ordering.{is_eq}
-use Rattle.std.specs.declared.cmp.Ordering.TheVariants.{Less, Equal}
 use Rattle.wm_base.specs.Key.{key_order}
 use Rattle.wm_base.specs.Orders.{key_order-itself}
 use Rattle.wm_base.specs.Period.{Span}
@@ -24,8 +24,7 @@ use Rattle.wm_spec.specs.declared.record.stored.Stored.{Stored}
 use Rattle.wm_spec.specs.declared.record.table.Table.{Table}
 use Rattle.wm_state.specs.Listing.{row_shown_with, joined}
 use Rattle.wm_state.proofs.Laying.{key_same}
-use Rattle.wm_state.proofs.Listing.{one_rows}
-use Rattle.wm_state.proofs.Tests.{bool_apart, both, either_false}
+use Rattle.wm_state.proofs.Listing.{one_rows, before-out}
 use Rattle.wm_chosen.proofs.Listable.{stretches_of, are_stretches, keys_on, keys_with, ascend-with, groups_of, rows_with, is_showing}
 use Rattle.wm_chosen.proofs.Seen.{shown_fits, shown_under}
 use Rattle.wm_chosen.proofs.Stood.{key_showing_all}
@@ -38,31 +37,16 @@ abbrev gathered : (List Value → List Row) → List (List Value) → List Row
 gathered part [] = []
 gathered part (k ∷ ks) = part k ++ gathered part ks
 
-less_itself : (k : List Value) → key_order k k ≡ Less → ⊥
-less_itself k e = less_apart (sym e ∙ key_order-itself k)
-  where
-    less_apart : Less ≡ Equal → ⊥
-    less_apart e = cc
-
--- a key before all of these is none of them
-before-out : (k : List Value) (ks : List (List Value)) → ComesBefore k ks → is_key_in k ks ≡ false
-before-out k [] before = refl
-before-out k (x ∷ ks) before = by_test (is_eq (key_order x k)) refl (before-out k ks before.1)
-  where
-    by_test : (b : Bool) → is_eq (key_order x k) ≡ b → is_key_in k ks ≡ false → (b || is_key_in k ks) ≡ false
-    by_test true e rest = absurd (less_itself k (ap (key_order k) (sym (key_same x k e)) ∙ before.0))
-    by_test false e rest = rest
-
 nothing_gathered : (part : List Value → List Row) (key : List Value) → ((k : List Value) → is_eq (key_order k key) ≡ false → part k ≡ []) → (ks : List (List Value)) → is_key_in key ks ≡ false
     → gathered part ks ≡ []
 nothing_gathered part key others [] out = refl
 nothing_gathered part key others (k ∷ ks) out =
-    let h = either_false (is_eq (key_order k key)) (is_key_in key ks) out in
+    let h = or_parts (is_eq (key_order k key)) (is_key_in key ks) out in
     ap (λ rows. rows ++ gathered part ks) (others k h.0) ∙ nothing_gathered part key others ks h.1
 
 one_gathered : (part : List Value → List Row) (key : List Value) → ((k : List Value) → is_eq (key_order k key) ≡ false → part k ≡ []) → (ks : List (List Value)) → KeysAscend ks → is_key_in key ks ≡ true
     → gathered part ks ≡ part key
-one_gathered part key others [] up there = absurd (bool_apart (sym there))
+one_gathered part key others [] up there = absurd (true≢false (sym there))
 one_gathered part key others (k ∷ ks) up there = by_test (is_eq (key_order k key)) refl there (one_gathered part key others ks up.1)
   where
     by_test : (b : Bool) → is_eq (key_order k key) ≡ b → (b || is_key_in key ks) ≡ true → (is_key_in key ks ≡ true → gathered part ks ≡ part key) → (part k ++ gathered part ks) ≡ part key
@@ -75,7 +59,7 @@ one_gathered part key others (k ∷ ks) up there = by_test (is_eq (key_order k k
 filter_none : (keep fails : Row → Bool) → ((row : Row) → fails row ≡ true → keep row ≡ false) → (rows : List Row) → list_all fails rows ≡ true → filter keep rows ≡ []
 filter_none keep fails apart [] all = refl
 filter_none keep fails apart (row ∷ rows) all =
-    let h = both (fails row) (list_all fails rows) all in
+    let h = and_parts (fails row) (list_all fails rows) all in
     ap (λ b. cond b (row ∷ filter keep rows) (filter keep rows)) (apart row h.0) ∙ filter_none keep fails apart rows h.1
 
 -- ---- key by key
@@ -103,7 +87,7 @@ other_key t condition key k fixed apart row under = by_test (meets condition (ow
     not_here : is_key k (Some key) ≡ true → ⊥
     not_here e =
         let same : key ≡ k = key_same key k e in
-        bool_apart (sym (ap is_eq (key_order-itself k)) ∙ ap (λ j. is_eq (key_order k j)) (sym same) ∙ apart)
+        true≢false (sym (ap is_eq (key_order-itself k)) ∙ ap (λ j. is_eq (key_order k j)) (sym same) ∙ apart)
 
     by_test : (b : Bool) → meets condition (own_columns t) row ≡ b → b ≡ false
     by_test true e = absurd (not_here (ap (is_key k) (sym (fixed.under row e)) ∙ under))

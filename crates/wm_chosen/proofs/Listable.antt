@@ -1,5 +1,6 @@
 -- What a version holds of a table can be shown, over any keys that have all of those of which there is a piece.
 use Rattle.std.proofs.Common.{◌≡◌, ℕ, ◌==◌, ◌&&◌, ◌||◌, nat_lt, nat_le, Bool, true, false, if◌then◌else◌, List, [], ◌∷◌, None, refl, sym, ap, ◌∙◌, arith}
+use Rattle.std.proofs.lemmas.Bool.{or_parts}
 use Rattle.std.specs.Bool.{then_some}
 use Rattle.std.specs.List.{filter_map, list_any}
 use Rattle.std.specs.Option.{option_or}
@@ -17,7 +18,6 @@ use Rattle.wm_spec.specs.declared.record.piece.PieceRecord.{PieceRecord}
 use Rattle.wm_spec.proofs.Stretches.{Up, Steady, Up-cut, Steady-cut, Off-own, Off-cut, Steady-or, Steady-then, Steady-period, AreMaximal-stretches, value-stretches}
 use Rattle.wm_state.specs.Listing.{standing, stamp_seen, AreRowsOf, row_shown_with, is_unwritten, IsShowing, Groups, keys_of, joined, AreAllRowsOf}
 use Rattle.wm_state.specs.Standing.{covers_at, held_by, stored_at, seen_at, newest_first}
-use Rattle.wm_state.proofs.Tests.{either_false}
 use Rattle.wm_tree.specs.declared.version.Version.{Version as Node}
 
 -- ---- what a version holds of a key changes at the ends of pieces only
@@ -102,7 +102,7 @@ ascend-with p key = key_in-ascends key (keys_on p.pieces) (ascend-on p.pieces)
 unwritten-out : (xs : List PieceRecord) (table : ℕ) (k : List Value) → is_key_in k (keys_on xs) ≡ false → is_unwritten xs table k
 unwritten-out [] table k out = refl
 unwritten-out (x ∷ xs) table k out =
-    let h = either_false (is_eq (key_order x.cells.key k)) (is_key_in k (keys_on xs)) (sym (key_in-has x.cells.key k (keys_on xs)) ∙ out) in
+    let h = or_parts (is_eq (key_order x.cells.key k)) (is_key_in k (keys_on xs)) (sym (key_in-has x.cells.key k (keys_on xs)) ∙ out) in
     none (x.cells.table == table) (is_eq (key_order x.cells.key k)) (list_any (λ (y : PieceRecord). (y.cells.table == table) && is_eq (key_order y.cells.key k)) xs) h.0 (unwritten-out xs table k h.1)
   where
     none : (a b c : Bool) → b ≡ false → c ≡ false → ((a && b) || c) ≡ false
@@ -132,7 +132,7 @@ is_showing p version table valid within key = record {
   groups = groups_of p version table (keys_with p key);
   ascend = rw (keys_are p version table (keys_with p key)) (ascend-with p key);
   whole = λ k out. unwritten-out p.pieces table k
-      (either_false (is_eq (key_order key k)) (is_key_in k (keys_on p.pieces))
+      (or_parts (is_eq (key_order key k)) (is_key_in k (keys_on p.pieces))
       (sym (key_in-has key k (keys_on p.pieces)) ∙ ap (is_key_in k) (sym (keys_are p version table (keys_with p key))) ∙ out)).1;
   held = groups_held p version table (keys_with p key);
   are = refl;

@@ -2,6 +2,8 @@
 -- its period overlaps the asked one.
 use Rattle.std.proofs.Common.{◌≡◌, ℕ, zero, suc, ◌==◌, ◌||◌, Bool, true, false, if◌then◌else◌, List, [], ◌∷◌, ◌++◌, map, length, take, drop, slice_get, Option, Some, None, option_and_then, option_map, unwrap_or, refl, sym, ap, ◌∙◌, append-nil}
 use Rattle.std.proofs.lemmas.List.{take-append-drop}
+use Rattle.std.proofs.lemmas.Bool.{and_from, and_parts, true≢false}
+use Rattle.std.proofs.lemmas.Option.{none-some}
 use Rattle.wm_base.specs.Period.{Span, always, overlaps}
 use Rattle.wm_base.specs.Value.{type_place}
 use Rattle.wm_base.specs.declared.columns.Column.{Column}
@@ -19,7 +21,6 @@ use Rattle.wm_spec.specs.declared.record.column.ColumnKind.TheVariants as kinds
 use Rattle.wm_spec.specs.declared.record.column.TableColumn.{TableColumn}
 use Rattle.wm_spec.specs.declared.record.table.Table.{Table}
 use Rattle.wm_state.specs.Listing.{with_span}
-use Rattle.wm_state.proofs.Tests.{bool_apart, both, and_true}
 use Rattle.wm_typing.specs.Columns.{columns_of_table, declared_column, valid_column}
 use Rattle.wm_chosen.proofs.Stood.{IsShownUnder}
 use Rattle.wm_chosen.specs.Chosen.{is_keyed_row, is_keyed_shown}
@@ -28,29 +29,26 @@ use Rattle.wm_chosen.specs.Chosen.{is_keyed_row, is_keyed_shown}
 
 took : (cs : List TableColumn) (vs more : List Value) → fit_columns cs vs ≡ true → take (length cs) (vs ++ more) ≡ vs
 took [] [] more fit = refl
-took [] (v ∷ vs) more fit = absurd (bool_apart (sym fit))
-took (c ∷ cs) [] more fit = absurd (bool_apart (sym fit))
-took (c ∷ cs) (v ∷ vs) more fit = ap (λ ws. v ∷ ws) (took cs vs more (both (fits_column c v) (fit_columns cs vs) fit).1)
+took [] (v ∷ vs) more fit = absurd (true≢false (sym fit))
+took (c ∷ cs) [] more fit = absurd (true≢false (sym fit))
+took (c ∷ cs) (v ∷ vs) more fit = ap (λ ws. v ∷ ws) (took cs vs more (and_parts (fits_column c v) (fit_columns cs vs) fit).1)
 
 dropped : (cs : List TableColumn) (vs more : List Value) → fit_columns cs vs ≡ true → drop (length cs) (vs ++ more) ≡ more
 dropped [] [] more fit = refl
-dropped [] (v ∷ vs) more fit = absurd (bool_apart (sym fit))
-dropped (c ∷ cs) [] more fit = absurd (bool_apart (sym fit))
-dropped (c ∷ cs) (v ∷ vs) more fit = dropped cs vs more (both (fits_column c v) (fit_columns cs vs) fit).1
+dropped [] (v ∷ vs) more fit = absurd (true≢false (sym fit))
+dropped (c ∷ cs) [] more fit = absurd (true≢false (sym fit))
+dropped (c ∷ cs) (v ∷ vs) more fit = dropped cs vs more (and_parts (fits_column c v) (fit_columns cs vs) fit).1
 
 -- the first of them
 got : (cs : List TableColumn) (vs : List Value) (w : Value) → fit_columns cs vs ≡ true → slice_get (vs ++ w ∷ []) (length cs) ≡ Some w
 got [] [] w fit = refl
-got [] (v ∷ vs) w fit = absurd (bool_apart (sym fit))
-got (c ∷ cs) [] w fit = absurd (bool_apart (sym fit))
-got (c ∷ cs) (v ∷ vs) w fit = got cs vs w (both (fits_column c v) (fit_columns cs vs) fit).1
+got [] (v ∷ vs) w fit = absurd (true≢false (sym fit))
+got (c ∷ cs) [] w fit = absurd (true≢false (sym fit))
+got (c ∷ cs) (v ∷ vs) w fit = got cs vs w (and_parts (fits_column c v) (fit_columns cs vs) fit).1
 
 -- what stood at a place stands there
 kept : (vs more : List Value) (i : ℕ) (v : Value) → slice_get vs i ≡ Some v → slice_get (vs ++ more) i ≡ Some v
-kept [] more i v e = absurd (none_some e)
-  where
-    none_some : (let nothing : Option Value = None in nothing) ≡ Some v → ⊥
-    none_some e = cc
+kept [] more i v e = absurd (none-some v e)
 kept (w ∷ vs) more zero v e = e
 kept (w ∷ vs) more (suc i) v e = kept vs more i v e
 
@@ -83,7 +81,7 @@ key_kept t vs more there = by_key (has_key t) there
 value_fits : (name : List ℕ) (c : TableColumn) (v : Value) → fits_column c v ≡ true → ((type_place v == 0) || (type_place v == (declared_column name c).kind)) ≡ true
 value_fits name c values.Null is = refl
 value_fits name c (values.Num n) is = is
-value_fits name c (values.Text t) is = by_kind c.kind (both (type_of c.kind == 2) _ is).0
+value_fits name c (values.Text t) is = by_kind c.kind (and_parts (type_of c.kind == 2) _ is).0
   where
     by_kind : (k : ColumnKind) → (type_of k == 2) ≡ true → (2 == type_of k) ≡ true
     by_kind kinds.Number e = e
@@ -96,9 +94,9 @@ value_fits name c (values.Span s) is = is
 columns_fit : (name : List ℕ) (cs : List TableColumn) (vs : List Value) (columns : List Column) (more : List Value) → fit_columns cs vs ≡ true → fits_columns columns more ≡ true
     → fits_columns (map (declared_column name) cs ++ columns) (vs ++ more) ≡ true
 columns_fit name [] [] columns more is rest = rest
-columns_fit name [] (v ∷ vs) columns more is rest = absurd (bool_apart (sym is))
-columns_fit name (c ∷ cs) [] columns more is rest = absurd (bool_apart (sym is))
-columns_fit name (c ∷ cs) (v ∷ vs) columns more is rest = let h = both (fits_column c v) (fit_columns cs vs) is in rw (value_fits name c v h.0) (columns_fit name cs vs columns more h.1 rest)
+columns_fit name [] (v ∷ vs) columns more is rest = absurd (true≢false (sym is))
+columns_fit name (c ∷ cs) [] columns more is rest = absurd (true≢false (sym is))
+columns_fit name (c ∷ cs) (v ∷ vs) columns more is rest = let h = and_parts (fits_column c v) (fit_columns cs vs) is in rw (value_fits name c v h.0) (columns_fit name cs vs columns more h.1 rest)
 
 -- ---- a row that is shown
 
@@ -114,7 +112,7 @@ values_seen t within key shown is = ap (λ (r : Row). r.values) is.is ∙ by_val
     by_valid false = refl
 
 fitting : (t : Table) (row : List Value) → is_keyed_row t row ≡ true → fit_columns t.columns row ≡ true
-fitting t row is = (both (fit_columns t.columns row) _ (both (is_row_of row t) (is_key_of (row_key t row) t) is).0).0
+fitting t row is = (and_parts (fit_columns t.columns row) _ (and_parts (is_row_of row t) (is_key_of (row_key t row) t) is).0).0
 
 -- what is asked of rows that are shown, by whether the table has valid time
 abbrev declared_in : Bool → List TableColumn → List Value → List Value
@@ -136,7 +134,7 @@ period_behind false cs period vs fit lasts = refl
 -- it is keyed
 pub shown_keyed : (t : Table) (within : Span) (key : List Value) (shown : Row) → IsShownUnder t within key shown → is_keyed_shown t shown ≡ true
 shown_keyed t within key shown is =
-    and_true (is_keyed_row t (declared_values t shown.values)) (if t.valid then is_period_alone (drop (length t.columns) shown.values) else true)
+    and_from (is_keyed_row t (declared_values t shown.values)) (if t.valid then is_period_alone (drop (length t.columns) shown.values) else true)
     (ap (is_keyed_row t) (shown_declared t within key shown is) ∙ is.keyed)
     (ap (λ vs. if t.valid then is_period_alone (drop (length t.columns) vs) else true) (values_seen t within key shown is)
     ∙ period_behind t.valid t.columns is.period is.row.values (fitting t is.row.values is.keyed) is.lasts)
@@ -146,7 +144,7 @@ pub shown_key : (t : Table) (within : Span) (key : List Value) (shown : Row) →
 shown_key t within key shown is = ap (key_of t) (values_seen t within key shown is) ∙ by_valid t.valid ∙ sym (ap (key_of t) (shown_declared t within key shown is))
   where
     by_valid : (valid : Bool) → key_of t (seen_values valid is.period is.row.values) ≡ key_of t is.row.values
-    by_valid true = key_kept t is.row.values (values.Span is.period ∷ []) (λ none. bool_apart (sym is.under ∙ ap (is_key key) none))
+    by_valid true = key_kept t is.row.values (values.Span is.period ∷ []) (λ none. true≢false (sym is.under ∙ ap (is_key key) none))
     by_valid false = refl
 
 -- and is the one under which it is shown
@@ -155,15 +153,15 @@ shown_under t within key shown is = ap (is_key key) (shown_key t within key show
 
 -- so is that of any row that is keyed
 pub keyed_key : (t : Table) (r : Row) → is_keyed_shown t r ≡ true → key_of t r.values ≡ key_of t (declared_values t r.values)
-keyed_key t r is = by_valid t.valid (both (is_row_of (declared_values t r.values) t) (is_key_of (row_key t (declared_values t r.values)) t) row).1
+keyed_key t r is = by_valid t.valid (and_parts (is_row_of (declared_values t r.values) t) (is_key_of (row_key t (declared_values t r.values)) t) row).1
   where
     row : is_keyed_row t (declared_values t r.values) ≡ true
-    row = (both (is_keyed_row t (declared_values t r.values)) (if t.valid then is_period_alone (drop (length t.columns) r.values) else true) is).0
+    row = (and_parts (is_keyed_row t (declared_values t r.values)) (if t.valid then is_period_alone (drop (length t.columns) r.values) else true) is).0
 
     by_valid : (valid : Bool) → is_key_of (row_key t (declared_in valid t.columns r.values)) t ≡ true → key_of t r.values ≡ key_of t (declared_in valid t.columns r.values)
     by_valid true e =
         ap (key_of t) (sym (take-append-drop (length t.columns) r.values))
-        ∙ key_kept t (take (length t.columns) r.values) (drop (length t.columns) r.values) (λ none. bool_apart (sym (same_key t (take (length t.columns) r.values) e) ∙ ap (is_key (row_key t (take (length t.columns) r.values))) none))
+        ∙ key_kept t (take (length t.columns) r.values) (drop (length t.columns) r.values) (λ none. true≢false (sym (same_key t (take (length t.columns) r.values) e) ∙ ap (is_key (row_key t (take (length t.columns) r.values))) none))
     by_valid false e = refl
 
 abbrev period_in : Bool → List TableColumn → List Value → Span

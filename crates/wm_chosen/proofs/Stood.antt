@@ -1,13 +1,13 @@
 -- What is shown of a table: rows of it, each under a key of the table's, and with a period where the table has valid time.
-use Rattle.std.proofs.Common.{◌≡◌, ℕ, ◌≤◌, ◌<◌, ◌-◌, ◌==◌, ◌&&◌, ◌||◌, nat_lt, nat_le, Bool, true, false, if◌then◌else◌, List, [], ◌∷◌, ◌++◌, map, Option, Some, None, unwrap_or, refl, sym, ap, ◌∙◌, subst, arith}
-use Rattle.std.proofs.lemmas.Bool.{eqb-true}
+use Rattle.std.proofs.Common.{◌≡◌, ℕ, ◌≤◌, ◌<◌, ◌-◌, ◌==◌, ◌&&◌, ◌||◌, nat_lt, nat_le, Bool, true, false, if◌then◌else◌, List, [], ◌∷◌, map, Option, Some, None, unwrap_or, refl, sym, ap, ◌∙◌, subst, arith}
+use Rattle.std.proofs.lemmas.Bool.{eqb-true, and_from, and_parts, true≢false}
 use Rattle.std.proofs.lemmas.List.Elements.{filter_map-append}
+use Rattle.std.proofs.lemmas.Option.{same_Some, none-some}
+use Rattle.std.specs.Cmp.{Equal-is}
 use Rattle.std.specs.Bool.{then_some}
 use Rattle.std.specs.List.{filter_map, list_all}
 use Rattle.std.specs.Option.{option_or, option_and_then, option_map_or, option_map}
 use Rattle.std.specs.Ordering.{is_eq}
-use Rattle.std.specs.declared.cmp.Ordering.{Ordering}
-use Rattle.std.specs.declared.cmp.Ordering.TheVariants.{Less, Equal, Greater}
 use Rattle.wm_base.specs.Key.{key_order}
 use Rattle.wm_base.specs.Orders.{key_order-equal}
 use Rattle.wm_base.specs.Period.{Span, overlaps}
@@ -29,8 +29,8 @@ use Rattle.wm_state.specs.Standing.{covers_at, held_by, stored_at, seen_at, seen
 use Rattle.wm_state.proofs.Apart.{found-passes, ruled}
 use Rattle.wm_state.proofs.Laying.{key_same}
 use Rattle.wm_state.proofs.Listing.{first-held, behind-held}
-use Rattle.wm_state.proofs.Shown.{has_period}
-use Rattle.wm_state.proofs.Tests.{bool_apart, both, and_true}
+use Rattle.wm_state.proofs.Shown.{has_period, shown_step}
+use Rattle.wm_state.proofs.Appending.{all_append}
 use Rattle.wm_chosen.specs.Chosen.{is_keyed_row}
 
 -- ---- what a version holds is a row of its table
@@ -60,17 +60,12 @@ record Asks (p : Parts) (t : Table) : Type 0 where
 at_key : (t : Table) (key row : List Value) → is_key_of key t ≡ true → is_key key (key_of t row) ≡ true → is_key_of (row_key t row) t ≡ true
 at_key t key row fits is = by_key (key_of t row) refl is
   where
-    equal : (o : Ordering) → is_eq o ≡ true → o ≡ Equal
-    equal Equal e = refl
-    equal Less e = absurd (bool_apart (sym e))
-    equal Greater e = absurd (bool_apart (sym e))
-
     by_key : (o : Option (List Value)) → key_of t row ≡ o → is_key key o ≡ true → is_key_of (row_key t row) t ≡ true
-    by_key None e h = absurd (bool_apart (sym h))
-    by_key (Some k) e h = ap (λ (o : Option (List Value)). is_key_of (unwrap_or o []) t) e ∙ ap (λ j. is_key_of j t) (key_order-equal k key (equal (key_order k key) h)) ∙ fits
+    by_key None e h = absurd (true≢false (sym h))
+    by_key (Some k) e h = ap (λ (o : Option (List Value)). is_key_of (unwrap_or o []) t) e ∙ ap (λ j. is_key_of j t) (key_order-equal k key ((Equal-is (key_order k key)).0 h)) ∙ fits
 
 before_end : (from till time end : ℕ) → nat_lt time till ≡ true → (nat_lt from till && nat_le till end) ≡ true → time < end
-before_end from till time end at cells = grind (arith, at, (both (nat_lt from till) (nat_le till end) cells).1)
+before_end from till time end at cells = grind (arith, at, (and_parts (nat_lt from till) (nat_le till end) cells).1)
 
 piece_backs : (p : Parts) (t : Table) (x : PieceRecord) (version : ℕ) (c : Cell) (asks : Asks p t) → c.table ≡ t.number
     → is_piece (table_of p.tables) (version_of p.versions) (row_of p.rows) (ruled p asks.rules).counters.next_stamp x ≡ true → Backs p t c (then_some (covers_at x version c) (held_by x))
@@ -79,72 +74,66 @@ piece_backs p t x version c asks of is = by_test (covers_at x version c) refl
     next : ℕ
     next = (ruled p asks.rules).counters.next_stamp
 
-    none_some : (stamp : ℕ) → (let nothing : Option ℕ = None in nothing) ≡ Some stamp → ⊥
-    none_some stamp e = cc
-
-    some_same : (a b : ℕ) → Some a ≡ Some b → a ≡ b
-    some_same a b e = cc
-
     cells : (are_cells (table_of p.tables) x.cells ≡ true) × ((nat_lt x.stamp next && (x.gone || option_map_or (is_row_at (table_of p.tables) x.cells) (row_of p.rows x.stamp) false)) ≡ true)
     cells =
-        let a = both _ (are_cells (table_of p.tables) x.cells && (nat_lt x.stamp next && (x.gone || option_map_or (is_row_at (table_of p.tables) x.cells) (row_of p.rows x.stamp) false))) is in
-        both (are_cells (table_of p.tables) x.cells) (nat_lt x.stamp next && (x.gone || option_map_or (is_row_at (table_of p.tables) x.cells) (row_of p.rows x.stamp) false)) a.1
+        let a = and_parts _ (are_cells (table_of p.tables) x.cells && (nat_lt x.stamp next && (x.gone || option_map_or (is_row_at (table_of p.tables) x.cells) (row_of p.rows x.stamp) false))) is in
+        and_parts (are_cells (table_of p.tables) x.cells) (nat_lt x.stamp next && (x.gone || option_map_or (is_row_at (table_of p.tables) x.cells) (row_of p.rows x.stamp) false)) a.1
 
     row_there : x.gone ≡ false → option_map_or (is_row_at (table_of p.tables) x.cells) (row_of p.rows x.stamp) false ≡ true
     row_there kept =
-        let d = both (nat_lt x.stamp next) (x.gone || option_map_or (is_row_at (table_of p.tables) x.cells) (row_of p.rows x.stamp) false) cells.1 in
+        let d = and_parts (nat_lt x.stamp next) (x.gone || option_map_or (is_row_at (table_of p.tables) x.cells) (row_of p.rows x.stamp) false) cells.1 in
         sym (ap (λ g. g || option_map_or (is_row_at (table_of p.tables) x.cells) (row_of p.rows x.stamp) false) kept) ∙ d.1
 
     of_table : covers_at x version c ≡ true → x.cells.table ≡ t.number
     of_table e =
-        let a = both (x.version == version) _ e in
-        let b = both _ _ a.1 in
-        let d = both (x.cells.table == c.table) _ b.0 in
+        let a = and_parts (x.version == version) _ e in
+        let b = and_parts _ _ a.1 in
+        let d = and_parts (x.cells.table == c.table) _ b.0 in
         eqb-true x.cells.table c.table d.0 ∙ of
 
     of_key : covers_at x version c ≡ true → x.cells.key ≡ c.key
     of_key e =
-        let a = both (x.version == version) _ e in
-        let b = both _ _ a.1 in
-        let d = both (x.cells.table == c.table) _ b.0 in
+        let a = and_parts (x.version == version) _ e in
+        let b = and_parts _ _ a.1 in
+        let d = and_parts (x.cells.table == c.table) _ b.0 in
         key_same x.cells.key c.key d.1
 
     key_there : x.cells.table ≡ t.number → is_key_of x.cells.key t ≡ true
     key_there same =
         sym (ap (λ (o : Option Table). option_map_or (is_key_of x.cells.key) o false) (ap (table_of p.tables) same ∙ asks.there))
-        ∙ (both (nat_lt x.cells.from x.cells.till && nat_le x.cells.till END) (option_map_or (is_key_of x.cells.key) (table_of p.tables x.cells.table) false) cells.0).1
+        ∙ (and_parts (nat_lt x.cells.from x.cells.till && nat_le x.cells.till END) (option_map_or (is_key_of x.cells.key) (table_of p.tables x.cells.table) false) cells.0).1
 
     early : covers_at x version c ≡ true → c.time < END
     early e =
-        let a = both (x.version == version) _ e in
-        let b = both ((x.cells.table == c.table) && is_eq (key_order x.cells.key c.key)) (nat_le x.cells.from c.time && nat_lt c.time x.cells.till) a.1 in
-        before_end x.cells.from x.cells.till c.time END (both (nat_le x.cells.from c.time) (nat_lt c.time x.cells.till) b.1).1
-        (both (nat_lt x.cells.from x.cells.till && nat_le x.cells.till END) (option_map_or (is_key_of x.cells.key) (table_of p.tables x.cells.table) false) cells.0).0
+        let a = and_parts (x.version == version) _ e in
+        let b = and_parts ((x.cells.table == c.table) && is_eq (key_order x.cells.key c.key)) (nat_le x.cells.from c.time && nat_lt c.time x.cells.till) a.1 in
+        before_end x.cells.from x.cells.till c.time END (and_parts (nat_le x.cells.from c.time) (nat_lt c.time x.cells.till) b.1).1
+        (and_parts (nat_lt x.cells.from x.cells.till && nat_le x.cells.till END) (option_map_or (is_key_of x.cells.key) (table_of p.tables x.cells.table) false) cells.0).0
 
     keyed_at : (r : RowRecord) → row_of p.rows x.stamp ≡ Some r → is_row_at (table_of p.tables) x.cells r ≡ true → x.cells.table ≡ t.number → is_keyed_row t r.values ≡ true
     keyed_at r found at same =
-        let h = both (r.table == x.cells.table) (is_key x.cells.key (option_and_then (λ (u : Table). key_of u r.values) (table_of p.tables x.cells.table))) at in
+        let h = and_parts (r.table == x.cells.table) (is_key x.cells.key (option_and_then (λ (u : Table). key_of u r.values) (table_of p.tables x.cells.table))) at in
         let here : table_of p.tables x.cells.table ≡ Some t = ap (table_of p.tables) same ∙ asks.there in
-        let passed = (found-passes (λ (r : RowRecord). r.stamp == x.stamp) (is_row (table_of p.tables) next) p.rows r found (both (differ _ p.rows) _ (ruled p asks.rules).rows).1).1 in
-        and_true (is_row_of r.values t) (is_key_of (row_key t r.values) t)
-        (sym (ap (λ (o : Option Table). option_map_or (is_row_of r.values) o false) (ap (table_of p.tables) (eqb-true r.table x.cells.table h.0) ∙ here)) ∙ (both (nat_lt r.stamp next) _ passed).1)
+        let passed = (found-passes (λ (r : RowRecord). r.stamp == x.stamp) (is_row (table_of p.tables) next) p.rows r found (and_parts (differ _ p.rows) _ (ruled p asks.rules).rows).1).1 in
+        and_from (is_row_of r.values t) (is_key_of (row_key t r.values) t)
+        (sym (ap (λ (o : Option Table). option_map_or (is_row_of r.values) o false) (ap (table_of p.tables) (eqb-true r.table x.cells.table h.0) ∙ here)) ∙ (and_parts (nat_lt r.stamp next) _ passed).1)
         (at_key t x.cells.key r.values (key_there same) (sym (ap (λ (o : Option Table). is_key x.cells.key (option_and_then (λ (u : Table). key_of u r.values) o)) here) ∙ h.1))
 
     under_at : (r : RowRecord) → is_row_at (table_of p.tables) x.cells r ≡ true → x.cells.table ≡ t.number → x.cells.key ≡ c.key → is_key c.key (key_of t r.values) ≡ true
     under_at r at same key =
-        let h = both (r.table == x.cells.table) (is_key x.cells.key (option_and_then (λ (u : Table). key_of u r.values) (table_of p.tables x.cells.table))) at in
+        let h = and_parts (r.table == x.cells.table) (is_key x.cells.key (option_and_then (λ (u : Table). key_of u r.values) (table_of p.tables x.cells.table))) at in
         let here : table_of p.tables x.cells.table ≡ Some t = ap (table_of p.tables) same ∙ asks.there in
         ap (λ (k : List Value). is_key k (key_of t r.values)) (sym key) ∙ sym (ap (λ (o : Option Table). is_key x.cells.key (option_and_then (λ (u : Table). key_of u r.values) o)) here) ∙ h.1
 
     by_row : (o : Option RowRecord) → row_of p.rows x.stamp ≡ o → option_map_or (is_row_at (table_of p.tables) x.cells) o false ≡ true → x.cells.table ≡ t.number → x.cells.key ≡ c.key
         → c.time < END → IsKeyedAt p t c x.stamp
-    by_row None e at same key before = absurd (bool_apart (sym at))
+    by_row None e at same key before = absurd (true≢false (sym at))
     by_row (Some r) e at same key before = record { row = r; found = e; keyed = keyed_at r e at same; under = under_at r at same key; early = before }
 
     by_gone : (g : Bool) → x.gone ≡ g → (stamp : ℕ) → (let nothing : Option ℕ = None in if g then nothing else Some x.stamp) ≡ Some stamp → x.cells.table ≡ t.number → x.cells.key ≡ c.key
         → c.time < END → IsKeyedAt p t c stamp
-    by_gone true e stamp held same key before = absurd (none_some stamp held)
-    by_gone false e stamp held same key before = subst (IsKeyedAt p t c) (some_same x.stamp stamp held) (by_row (row_of p.rows x.stamp) refl (row_there e) same key before)
+    by_gone true e stamp held same key before = absurd (none-some stamp held)
+    by_gone false e stamp held same key before = subst (IsKeyedAt p t c) (same_Some x.stamp stamp held) (by_row (row_of p.rows x.stamp) refl (row_there e) same key before)
 
     by_test : (b : Bool) → covers_at x version c ≡ b → Backs p t c (then_some b (held_by x))
     by_test false e = tt
@@ -157,7 +146,7 @@ or_backs p t c (Some h) b one two = one
 stored_backs : (p : Parts) (t : Table) (pieces : List PieceRecord) (version : ℕ) (c : Cell) (asks : Asks p t) → c.table ≡ t.number → InOrder p (ruled p asks.rules).counters.next_stamp pieces → Backs p t c (stored_at pieces version c)
 stored_backs p t [] version c asks of all = tt
 stored_backs p t (x ∷ xs) version c asks of all =
-    let h = both (is_piece (table_of p.tables) (version_of p.versions) (row_of p.rows) (ruled p asks.rules).counters.next_stamp x) (list_all (is_piece (table_of p.tables) (version_of p.versions) (row_of p.rows) (ruled p asks.rules).counters.next_stamp) xs) all in
+    let h = and_parts (is_piece (table_of p.tables) (version_of p.versions) (row_of p.rows) (ruled p asks.rules).counters.next_stamp x) (list_all (is_piece (table_of p.tables) (version_of p.versions) (row_of p.rows) (ruled p asks.rules).counters.next_stamp) xs) all in
     or_backs p t c (then_some (covers_at x version c) (held_by x)) (stored_at xs version c) (piece_backs p t x version c asks of h.0) (stored_backs p t xs version c asks of h.1)
 
 seen_backs : (p : Parts) (t : Table) (nodes : _) (version : ℕ) (c : Cell) → Asks p t → c.table ≡ t.number → Backs p t c (seen_at p.pieces nodes version c)
@@ -165,7 +154,7 @@ seen_backs p t [] version c asks of = tt
 seen_backs p t (x ∷ older) version c asks of = by_number (x.number == version) (seen_backs p t older x.parent c asks of) (seen_backs p t older version c asks of)
   where
     ordered : InOrder p (ruled p asks.rules).counters.next_stamp p.pieces
-    ordered = (both (differ _ p.pieces) _ (ruled p asks.rules).pieces).1
+    ordered = (and_parts (differ _ p.pieces) _ (ruled p asks.rules).pieces).1
 
     by_number : (b : Bool) → Backs p t c (seen_at p.pieces older x.parent c) → Backs p t c (seen_at p.pieces older version c)
         → Backs p t c (if b then option_or (stored_at p.pieces version c) (seen_at p.pieces older x.parent c) else seen_at p.pieces older version c)
@@ -178,11 +167,8 @@ row_seen p version t key u stamp asks is = by_held (seen p version cell) (seen_b
     cell : Cell
     cell = record { table = t.number; key = key; time = u }
 
-    none_some : (let nothing : Option ℕ = None in nothing) ≡ Some stamp → ⊥
-    none_some e = cc
-
     by_held : (o : Option Held) → Backs p t cell o → option_and_then standing o ≡ Some stamp → IsKeyedAt p t cell stamp
-    by_held None backs e = absurd (none_some e)
+    by_held None backs e = absurd (none-some stamp e)
     by_held (Some h) backs e = backs stamp e
 
 -- ---- what is shown of it
@@ -205,9 +191,6 @@ row_shown p t within c s shown at lasts e = by_valid t.valid refl e
     row : Row
     row = record { values = at.row.values }
 
-    some_same : (a b : Row) → Some a ≡ Some b → a ≡ b
-    some_same a b e = cc
-
     found : row_with p (c.key, s) ≡ Some row
     found = ap (λ (o : Option RowRecord). option_map (λ (r : RowRecord). let made : Row = record { values = r.values } in made) o) at.found
 
@@ -218,8 +201,8 @@ row_shown p t within c s shown at lasts e = by_valid t.valid refl e
       keyed = at.keyed;
       under = at.under;
       lasts = lasts;
-      overlapping = λ valid. absurd (bool_apart (sym valid ∙ plain));
-      is = some_same shown row (sym h ∙ found) ∙ sym (ap (λ b. if b then with_span (span_on s) row else row) plain);
+      overlapping = λ valid. absurd (true≢false (sym valid ∙ plain));
+      is = same_Some shown row (sym h ∙ found) ∙ sym (ap (λ b. if b then with_span (span_on s) row else row) plain);
     }
     by_valid true valid h =
         let has = has_period within s (row_with p (c.key, s)) shown h in
@@ -230,32 +213,21 @@ row_shown p t within c s shown at lasts e = by_valid t.valid refl e
           under = at.under;
           lasts = lasts;
           overlapping = λ valid. has.overlapping;
-          is = has.timed ∙ ap (with_span (span_on s)) (some_same has.row row (sym has.found ∙ found)) ∙ sym (ap (λ b. if b then with_span (span_on s) row else row) valid);
+          is = has.timed ∙ ap (with_span (span_on s)) (same_Some has.row row (sym has.found ∙ found)) ∙ sym (ap (λ b. if b then with_span (span_on s) row else row) valid);
         }
 
 -- ---- all of them
 
-all_append : {A : Type 0} (P : A → Bool) (xs ys : List A) → list_all P xs ≡ true → list_all P ys ≡ true → list_all P (xs ++ ys) ≡ true
-all_append P [] ys one two = two
-all_append P (x ∷ xs) ys one two = let h = both (P x) (list_all P xs) one in rw h.0 (all_append P xs ys h.1 two)
-
-all_step : {X : Type 0} (P : Row → Bool) (f : X → Option Row) (a : X) (l : List X) → ((row : Row) → f a ≡ Some row → P row ≡ true) → list_all P (filter_map f l) ≡ true → list_all P (filter_map f (a ∷ l)) ≡ true
-all_step P f a l first rest = by_some (f a) refl
-  where
-    by_some : (o : Option Row) → f a ≡ o → list_all P (filter_map f (a ∷ l)) ≡ true
-    by_some None e = rw e rest
-    by_some (Some row) e = rw (e, first row e) rest
-
 -- a stretch that is held up to its end ends at most at the end of time
 lasting : (from till end : ℕ) → from < till → till - 1 < end → (nat_lt from till && nat_le till end) ≡ true
-lasting from till end lt early = and_true (nat_lt from till) (nat_le till end) (grind (arith, lt)) (grind (arith, lt, early))
+lasting from till end lt early = and_from (nat_lt from till) (nat_le till end) (grind (arith, lt)) (grind (arith, lt, early))
 
 key_all : (P : Row → Bool) (p : Parts) (t : Table) (version : ℕ) (within : Span) (key : List Value) (ss : List Stretch) (low : ℕ) → Asks p t → AreMaximal low ss
     → ((u : ℕ) → low ≤ u → value_at ss u ≡ stamp_seen p version t.number key u) → ((row : Row) → IsShownUnder t within key row → P row ≡ true)
     → list_all P (filter_map (row_shown_with p t.valid within) (map (λ x. (key, x)) ss)) ≡ true
 key_all P p t version within key [] low asks max held each = refl
 key_all P p t version within key (x ∷ xs) low asks max held each =
-    all_step P (row_shown_with p t.valid within) (key, x) (map (λ x. (key, x)) xs) (λ row shown. each row (row_shown p t within (cell x.from) x row (at x.from (omega arith) max.1) lasts shown))
+    shown_step P (row_shown_with p t.valid within) (key, x) (map (λ x. (key, x)) xs) (λ row shown. each row (row_shown p t within (cell x.from) x row (at x.from (omega arith) max.1) lasts shown))
     (key_all P p t version within key xs x.till asks max.3 (λ u le. sym (behind-held x xs u le) ∙ held u (omega (arith, max.0, max.1, le))) each)
   where
     cell : ℕ → Cell

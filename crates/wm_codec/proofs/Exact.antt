@@ -3,6 +3,7 @@ use Rattle.std.proofs.Common.{◌≡◌, ℕ, suc, ◌<◌, Bool, true, false, c
 use Rattle.std.specs.Option.{option_and_then, option_map}
 use Rattle.std.proofs.lemmas.Bool.{cases_lt}
 use Rattle.std.proofs.lemmas.List.{length-take, get_or-take, get_or_past}
+use Rattle.std.proofs.lemmas.Option.{same_Some}
 use Rattle.wm_codec.specs.Format.{Format, ◌▸◌, fields}
 use Rattle.wm_codec.specs.Fields.{text}
 
@@ -24,9 +25,6 @@ then_some None f y e = absurd cc
 pub map_some : {A B : Type 0} (r : Option A) (f : A → B) (y : B) → option_map f r ≡ Some y → (x : A) × (r ≡ Some x) × (f x ≡ y)
 map_some (Some x) f y e = (x, refl, cc)
 map_some None f y e = absurd cc
-
-pub some_is : {A : Type 0} (x y : A) → Some x ≡ Some y → x ≡ y
-some_is x y e = cc
 
 -- a test that let a value through
 pub guard_some : {A : Type 0} (b : Bool) (x y : A) → cond b None (Some x) ≡ Some y → (b ≡ false) × (x ≡ y)
@@ -56,7 +54,7 @@ pair_exact first second exact_first exact_second = record {
       let behind = IsBytes-rest (first.spell a.0.0) a.0.1 (subst IsBytes t.0 fits) in
       let u = exact_second.takes a.0.1 b.0.1 b.0.0 behind b.1 in
       let parts : bytes ≡ (first.spell a.0.0 ++ second.spell b.0.0) ++ b.0.1 = t.0 ∙ ap (λ text. first.spell a.0.0 ++ text) u.0 ∙ sym (append_assoc (first.spell a.0.0) (second.spell b.0.0) b.0.1) in
-      subst (λ q. (bytes ≡ (first.spell q.0.0 ++ second.spell q.0.1) ++ q.1) × (first.Fits q.0.0 × second.Fits q.0.1)) (some_is ((a.0.0, b.0.0), b.0.1) (p, rest) b.2) (parts, (t.1, u.1));
+      subst (λ q. (bytes ≡ (first.spell q.0.0 ++ second.spell q.0.1) ++ q.1) × (first.Fits q.0.0 × second.Fits q.0.1)) (same_Some ((a.0.0, b.0.0), b.0.1) (p, rest) b.2) (parts, (t.1, u.1));
   again = λ p rest fits.
       rw (append_assoc (first.spell p.0) (second.spell p.1) rest, exact_first.again p.0 (second.spell p.1 ++ rest) fits.0, exact_second.again p.1 rest fits.1) refl;
 }

@@ -7,6 +7,7 @@ use Rattle.std.proofs.lemmas.Int.{of_z-to_z}
 use Rattle.std.proofs.Math.Facts.{sfits_to_z, Fits-of_z, to_z-of_z}
 use Rattle.std.proofs.lemmas.List.{take_at, drop_at, take-append-drop, length-append, length-take}
 use Rattle.std.proofs.lemmas.Nat.{be_bytes_2, be_bytes_4, be_bytes_8, from_be_bytes-to_be_bytes_2, from_be_bytes-to_be_bytes_4, from_be_bytes-to_be_bytes_8}
+use Rattle.std.proofs.lemmas.Option.{same_Some}
 use Rattle.wm_base.specs.declared.kind.Kind.{Kind}
 use Rattle.wm_base.specs.declared.kind.Kind.TheVariants.{Insert, Update, Delete}
 use Rattle.wm_spec.specs.declared.record.column.ColumnKind.{ColumnKind}
@@ -17,7 +18,7 @@ use Rattle.wm_spec.specs.declared.record.lock.LockMode.{LockMode}
 use Rattle.wm_spec.specs.declared.record.lock.LockMode.TheVariants as locks
 use Rattle.wm_codec.specs.Format.{byte_at, coded}
 use Rattle.wm_codec.specs.Fields.{number_at, number, u8, u16, u32, u64, i64, text, text_at, flag, flag_code, flag_of, kind, kind_code, kind_of, column_kind, column_kind_code, column_kind_of, freeze_mode, freeze_code, freeze_of, lock_mode, lock_code, lock_of}
-use Rattle.wm_codec.proofs.Exact.{IsBytes, IsBytes-take, IsExact, then_some, map_some, guard_some, some_is}
+use Rattle.wm_codec.proofs.Exact.{IsBytes, IsBytes-take, IsExact, then_some, map_some, guard_some}
 
 -- ---- numbers
 
@@ -79,7 +80,7 @@ u64_exact = number_exact w64 (2 ^ 64) wide64
 
 pub byte_takes : (bytes rest : List ℕ) (b : ℕ) → byte_at bytes ≡ Some (b, rest) → bytes ≡ b ∷ rest
 byte_takes [] rest b e = absurd cc
-byte_takes (c ∷ bytes) rest b e = ap (λ p. p.0 ∷ p.1) (some_is (c, bytes) (b, rest) e)
+byte_takes (c ∷ bytes) rest b e = ap (λ p. p.0 ∷ p.1) (same_Some (c, bytes) (b, rest) e)
 
 pub u8_exact : IsExact u8
 u8_exact = record {

@@ -2,12 +2,13 @@
 use Rattle.std.proofs.Common.{◌≡◌, ℕ, cond, eqb, List, [], ◌∷◌, ◌++◌, length, Some, None, refl, sym, ap, subst, ◌∙◌, inl, inr}
 use Rattle.std.proofs.lemmas.Bool.{eqb-true}
 use Rattle.std.proofs.lemmas.List.{append-nil, nil_from_length}
+use Rattle.std.proofs.lemmas.Option.{same_Some}
 use Rattle.wm_spec.specs.declared.record.Record.{Record}
 use Rattle.wm_spec.specs.declared.record.Record.TheVariants as records
 use Rattle.wm_codec.specs.Format.{Format, byte_at}
 use Rattle.wm_codec.specs.Spelling.{counters, column, table, space, version, savepoint, row, piece, trace, lock, hist, turn, spelling, HasSpelling}
 use Rattle.wm_codec.specs.Reading.{whole, record_of, record_of_kind}
-use Rattle.wm_codec.proofs.Exact.{IsBytes, IsBytes-rest, IsExact, then_some, some_is, pair_exact, fields_exact}
+use Rattle.wm_codec.proofs.Exact.{IsBytes, IsBytes-rest, IsExact, then_some, pair_exact, fields_exact}
 use Rattle.wm_codec.proofs.ExactFields.{byte_takes, u16_exact, u32_exact, u64_exact, flag_exact, kind_exact, column_kind_exact, freeze_mode_exact, lock_mode_exact, text_exact}
 use Rattle.wm_codec.proofs.ExactValues.{value_exact, cell_range_exact, key_columns_exact, counted_exact, chosen, kept}
 
@@ -166,4 +167,4 @@ record_again (records.Turn r) fits = whole_again turn records.Turn r turn_exact 
 
 -- no two records have one spelling
 pub spelling_injective : (r s : Record) → HasSpelling r → HasSpelling s → spelling r ≡ spelling s → r ≡ s
-spelling_injective r s r_fits s_fits e = some_is r s (sym (record_again r r_fits) ∙ ap record_of e ∙ record_again s s_fits)
+spelling_injective r s r_fits s_fits e = same_Some r s (sym (record_again r r_fits) ∙ ap record_of e ∙ record_again s s_fits)

@@ -5,12 +5,13 @@ use Rattle.std.specs.List.{flat_map, AllByRecursion}
 use Rattle.std.specs.Option.{option_and_then, option_map}
 use Rattle.std.proofs.lemmas.Bool.{eqb-true, eqb-false, leb-true, le-leb, ne_eqb}
 use Rattle.std.proofs.lemmas.List.Concat.{flat_map-cons}
+use Rattle.std.proofs.lemmas.Option.{same_Some}
 use Rattle.wm_base.specs.declared.instant.TheConstants.{END}
 use Rattle.wm_base.specs.declared.value.Value.{Value}
 use Rattle.wm_base.specs.declared.value.Value.TheVariants.{Null, Num, Text, Time, Span}
 use Rattle.wm_codec.specs.Format.{Format, ◌▸◌, times, byte_at, counted}
 use Rattle.wm_codec.specs.Fields.{number_at, u8, i64, flag, text_at, value, value_at, value_of_type, spell_value, FitsValue, key, spell_key, FitsKey, cell_range, key_columns, key_columns_of, spell_key_columns, FitsKeyColumns}
-use Rattle.wm_codec.proofs.Exact.{IsBytes, IsBytes-rest, IsExact, then_some, map_some, guard_some, some_is, pair_exact, fields_exact}
+use Rattle.wm_codec.proofs.Exact.{IsBytes, IsBytes-rest, IsExact, then_some, map_some, guard_some, pair_exact, fields_exact}
 use Rattle.wm_codec.proofs.ExactFields.{byte_takes, u8_exact, u16_exact, u64_exact, i64_exact, flag_exact, text_exact}
 
 -- ---- values
@@ -56,7 +57,7 @@ type_takes : (tag : ℕ) (bytes : List ℕ) (p : Value × List ℕ) → IsBytes 
 unfolding value_of_type spell_value FitsValue
 type_takes tag bytes p fits e =
     elim (chosen (eqb tag 0) _ _ _ e) [
-      | inl is ↦ rw (eqb-true tag 0 is.0) (subst (TakesValue 0 bytes) (some_is (Null, bytes) p is.1) (refl, tt))
+      | inl is ↦ rw (eqb-true tag 0 is.0) (subst (TakesValue 0 bytes) (same_Some (Null, bytes) p is.1) (refl, tt))
       | inr e ↦ elim (chosen (eqb tag 1) _ _ _ e.1) [
         | inl is ↦ rw (eqb-true tag 1 is.0) (number_takes bytes p fits is.1)
         | inr e ↦ elim (chosen (eqb tag 2) _ _ _ e.1) [
@@ -117,7 +118,7 @@ cell_range_exact = fields_exact _ _ _ (λ b. refl) (λ a. refl) (pair_exact _ _ 
 
 -- what the two bytes say is spelled by them
 key_columns_are : (has : Bool) (place : ℕ) (places : List ℕ) → place < 256 → key_columns_of has place ≡ Some places → ((flag ▸ u8).spell (has, place) ≡ spell_key_columns places) × FitsKeyColumns places
-key_columns_are true place places low e = subst (λ ks. (1 ∷ place ∷ [] ≡ spell_key_columns ks) × FitsKeyColumns ks) (some_is (place ∷ []) places e) (refl, low)
+key_columns_are true place places low e = subst (λ ks. (1 ∷ place ∷ [] ≡ spell_key_columns ks) × FitsKeyColumns ks) (same_Some (place ∷ []) places e) (refl, low)
 key_columns_are false place places low e =
     let k = kept (eqb place 0) [] places e in
     subst (λ ks. (0 ∷ place ∷ [] ≡ spell_key_columns ks) × FitsKeyColumns ks) k.1 (ap (λ n. 0 ∷ n ∷ []) (eqb-true place 0 k.0), tt)
@@ -142,7 +143,7 @@ key_columns_exact = record {
 
 times_takes : {A : Type 0} (item : Format A) → IsExact item → (n : ℕ) (bytes rest : List ℕ) (xs : List A) → IsBytes bytes → times item n bytes ≡ Some (xs, rest) → (bytes ≡ flat_map item.spell xs ++ rest) × (length xs ≡ n) × AllByRecursion item.Fits xs
 times_takes item exact zero bytes rest xs fits e =
-    subst (λ p. (bytes ≡ flat_map item.spell p.0 ++ p.1) × (length p.0 ≡ 0) × AllByRecursion item.Fits p.0) (some_is ([], bytes) (xs, rest) e) (refl, refl, tt)
+    subst (λ p. (bytes ≡ flat_map item.spell p.0 ++ p.1) × (length p.0 ≡ 0) × AllByRecursion item.Fits p.0) (same_Some ([], bytes) (xs, rest) e) (refl, refl, tt)
 times_takes item exact (suc n) bytes rest xs fits e =
     let first = then_some (item.read bytes) (λ first. option_and_then (λ others. Some (first.0 ∷ others.0, others.1)) (times item n first.1)) (xs, rest) e in
     let others = then_some (times item n first.0.1) (λ others. Some (first.0.0 ∷ others.0, others.1)) (xs, rest) first.2 in
@@ -151,7 +152,7 @@ times_takes item exact (suc n) bytes rest xs fits e =
     let u = times_takes item exact n first.0.1 others.0.1 others.0.0 behind others.1 in
     let parts : bytes ≡ flat_map item.spell (first.0.0 ∷ others.0.0) ++ others.0.1 =
     rw (flat_map-cons item.spell first.0.0 others.0.0) (t.0 ∙ ap (λ t. item.spell first.0.0 ++ t) u.0 ∙ sym (append_assoc (item.spell first.0.0) (flat_map item.spell others.0.0) others.0.1)) in
-    subst (λ p. (bytes ≡ flat_map item.spell p.0 ++ p.1) × (length p.0 ≡ suc n) × AllByRecursion item.Fits p.0) (some_is (first.0.0 ∷ others.0.0, others.0.1) (xs, rest) others.2) (parts, ap suc u.1, (t.1, u.2))
+    subst (λ p. (bytes ≡ flat_map item.spell p.0 ++ p.1) × (length p.0 ≡ suc n) × AllByRecursion item.Fits p.0) (same_Some (first.0.0 ∷ others.0.0, others.0.1) (xs, rest) others.2) (parts, ap suc u.1, (t.1, u.2))
 
 pub times_again : {A : Type 0} (item : Format A) → IsExact item → (xs : List A) (rest : List ℕ) → AllByRecursion item.Fits xs → times item (length xs) (flat_map item.spell xs ++ rest) ≡ Some (xs, rest)
 times_again item exact [] rest fits = refl

@@ -1,27 +1,22 @@
 -- What decisions copy, cut to the stretches over which they count.
 use Rattle.std.proofs.Common.{◌≡◌, ℕ, ◌<◌, ◌≤◌, max, min, nat_lt, List, [], ◌∷◌, Option, None, Some, option_map, Bool, true, false, ◌&&◌, ◌==◌, refl, sym, ap, ◌∙◌, arith, eqb-true}
 use Rattle.std.proofs.lemmas.Bool.Decides.{nat_tests}
+use Rattle.std.proofs.lemmas.Bool.{eq-eqb, ltb-true}
 use Rattle.std.specs.Bool.{then_some}
 use Rattle.std.specs.Option.{option_or}
-use Rattle.wm_base.proofs.Plain.{option_or-none}
+use Rattle.wm_base.proofs.Plain.{option_or-none, less_apart}
 use Rattle.wm_net.specs.Listed.{IsApart, IsJoined, Ordered, Stretch, value_at, within}
 use Rattle.wm_net.specs.Nets.{one_stamp}
+use Rattle.wm_net.proofs.Stretching.{Ordered-lower}
 use Rattle.wm_spec.proofs.Stretches.{by_test}
 use Rattle.wm_spec.specs.Lists.{Told}
 use Rattle.wm_decided.specs.Counted.{copies_in}
 use Rattle.wm_decided.specs.Netted.{Copy, same_copy}
 
-pub ordered_lower : {A : Type 0} (low high : ℕ) (ss : List (Stretch A)) → low ≤ high → Ordered high ss → Ordered low ss
-ordered_lower low high [] le o = tt
-ordered_lower low high (s ∷ ss) le o = (omega (arith, le, o.0), o.1, o.2)
-
 -- a stretch is apart from others that begin behind its end
 pub apart_behind : {A : Type 0} (test : A → A → Bool) (p : Stretch A) (low : ℕ) (ss : List (Stretch A)) → p.till < low → Ordered low ss → IsApart test p ss
 apart_behind test p low [] lt o = tt
-apart_behind test p low (q ∷ ss) lt o = let other : (p.till == q.from) ≡ false = unequal p.till q.from (omega (arith, lt, o.0)) in rw other refl
-  where
-    unequal : (m n : ℕ) → m < n → (m == n) ≡ false
-    unequal m n lt = grind (arith, nat_tests)
+apart_behind test p low (q ∷ ss) lt o = let other : (p.till == q.from) ≡ false = less_apart p.till q.from (omega (arith, lt, o.0)) in rw other refl
 
 -- what is had of a copy, where a test passes, before others
 abbrev consed : {A : Type 0} → Option A → List A → List A
@@ -51,9 +46,6 @@ module _ (from till place : ℕ) where
   dropped : (s : Stretch Told) (ss : List (Stretch Told)) → is_some_of s ≡ false → copies (s ∷ ss) ≡ copies ss
   dropped s ss e = rw e refl
 
-  less_is : (m n : ℕ) → nat_lt m n ≡ true → m < n
-  less_is m n e = grind (arith, e)
-
   pub lie : (ss : List (Stretch Told)) → Lie from till place (copies ss)
   lie [] = tt
   lie (s ∷ ss) = by_test (is_some_of s) (λ e. rw e (omega arith, omega arith, refl, lie ss)) (λ e. rw e (lie ss))
@@ -62,8 +54,8 @@ module _ (from till place : ℕ) where
   ordered low [] o = tt
   ordered low (s ∷ ss) o =
       by_test (is_some_of s)
-      (λ e. rw e (omega (arith, o.0), less_is (max s.from from) (min s.till till) e, ordered_lower (min s.till till) (max s.till from) (copies ss) (omega arith) (ordered s.till ss o.2)))
-      (λ e. rw e (ordered_lower (max low from) (max s.till from) (copies ss) (omega (arith, o.0, o.1)) (ordered s.till ss o.2)))
+      (λ e. rw e (omega (arith, o.0), ltb-true (max s.from from) (min s.till till) e, Ordered-lower (min s.till till) (max s.till from) (copies ss) (omega arith) (ordered s.till ss o.2)))
+      (λ e. rw e (Ordered-lower (max low from) (max s.till from) (copies ss) (omega (arith, o.0, o.1)) (ordered s.till ss o.2)))
 
   -- a copy does not meet the next with the same stamp
   apart : (s : Stretch Told) (ss : List (Stretch Told)) → is_some_of s ≡ true → Ordered s.till ss → IsApart one_stamp s ss → IsApart same_copy (copy_of s) (copies ss)
@@ -75,15 +67,12 @@ module _ (from till place : ℕ) where
     where
       met : is_some_of t ≡ true → (min s.till till == max t.from from) ≡ true → ((place == place) && (s.value.stamp == t.value.stamp)) ≡ false
       met f meets =
-          let real = less_is (max s.from from) (min s.till till) e in
-          let other = less_is (max t.from from) (min t.till till) f in
+          let real = ltb-true (max s.from from) (min s.till till) e in
+          let other = ltb-true (max t.from from) (min t.till till) f in
           let is = eqb-true (min s.till till) (max t.from from) meets in
           let same : s.till ≡ t.from = omega (arith, real, other, is, o.0) in
-          by_stamp (s.till == t.from) (place == place) (s.value.stamp == t.value.stamp) (equal s.till t.from same) a
+          by_stamp (s.till == t.from) (place == place) (s.value.stamp == t.value.stamp) (eq-eqb s.till t.from same) a
         where
-          equal : (m n : ℕ) → m ≡ n → (m == n) ≡ true
-          equal m n e = grind (arith, nat_tests, e)
-
           by_stamp : (x y z : Bool) → x ≡ true → (x && z) ≡ false → (y && z) ≡ false
           by_stamp true true z e k = k
           by_stamp true false z e k = refl

@@ -1,23 +1,23 @@
 -- What decisions copy over the stretches where they count, in order and joined.
 use Rattle.std.proofs.Common.{◌≡◌, ℕ, ◌<◌, ◌≤◌, ◌⊎◌, inl, inr, max, List, [], ◌∷◌, ◌++◌, Option, Bool, true, false, ◌&&◌, ◌==◌, refl, sym, ap, ◌∙◌, arith, eqb-true}
-use Rattle.std.proofs.lemmas.Bool.Decides.{nat_tests}
+use Rattle.std.proofs.lemmas.Bool.{eq-eqb}
 use Rattle.std.specs.Bool.{then_some}
 use Rattle.std.specs.Option.{option_or}
-use Rattle.wm_base.proofs.Plain.{option_or-none, option_or_assoc}
-use Rattle.wm_net.proofs.Stretching.{le_or_lt, value_before, within_not_after}
+use Rattle.wm_base.proofs.Plain.{option_or-none, option_or_assoc, and_last}
+use Rattle.wm_net.proofs.Stretching.{le_or_lt, value_before, within_not_after, Ordered-lower}
 use Rattle.wm_net.specs.Groups.{Group}
 use Rattle.wm_net.specs.Listed.{IsApart, IsBlock, IsJoined, Ordered, Stretch, same_number, value_at, within}
 use Rattle.wm_spec.proofs.Stretches.{by_test}
 use Rattle.wm_spec.specs.Lists.{Cell, Told}
 use Rattle.wm_state.specs.State.{Decision}
-use Rattle.wm_decided.proofs.Copies.{Lie, apart_behind, joined as joined_in, lie, ordered as ordered_in, ordered_lower, value_in, value_out}
+use Rattle.wm_decided.proofs.Copies.{Lie, apart_behind, joined as joined_in, lie, ordered as ordered_in, value_in, value_out}
 use Rattle.wm_decided.specs.Counted.{IsSound, copies_in, copies_over, copy_from, decision_in}
 use Rattle.wm_decided.specs.Netted.{Copy, same_copy}
 
 -- ---- one list behind another
 
 ordered_append : (low from till place : ℕ) (xs ys : List (Stretch Copy)) → Lie from till place xs → Ordered low xs → low ≤ till → Ordered till ys → Ordered low (xs ++ ys)
-ordered_append low from till place [] ys lies o le more = ordered_lower low till ys le more
+ordered_append low from till place [] ys lies o le more = Ordered-lower low till ys le more
 ordered_append low from till place (x ∷ xs) ys lies o le more = (o.0, o.1, ordered_append x.till from till place xs ys lies.3 o.2 lies.1 more)
 
 joined_append : (from till place : ℕ) (xs ys : List (Stretch Copy)) → Lie from till place xs → IsJoined same_copy xs → IsJoined same_copy ys
@@ -30,9 +30,6 @@ value_append : (xs ys : List (Stretch Copy)) (t : ℕ) → value_at (xs ++ ys) t
 value_append [] ys t = sym (option_or-none (value_at ys t))
 value_append (x ∷ xs) ys t = rw (value_append xs ys t) (option_or_assoc (value_at ys t) (value_at xs t) (then_some (within x.from x.till t) x.value))
 
-equal : (m n : ℕ) → m ≡ n → (m == n) ≡ true
-equal m n e = grind (arith, nat_tests, e)
-
 module _ (ds : List Decision) (sound : (n : ℕ) → IsSound (decision_in ds n)) where
   abbrev its : Stretch ℕ → List (Stretch Copy)
   its s = copies_in s.from s.till s.value (decision_in ds s.value).copied
@@ -41,7 +38,7 @@ module _ (ds : List Decision) (sound : (n : ℕ) → IsSound (decision_in ds n))
   over_ordered low [] o = tt
   over_ordered low (s ∷ ss) o =
       ordered_append low s.from s.till s.value (its s) (copies_over ds ss) (lie s.from s.till s.value (decision_in ds s.value).copied)
-      (ordered_lower low (max 0 s.from) (its s) (omega (arith, o.0)) (ordered_in s.from s.till s.value 0 (decision_in ds s.value).copied (sound s.value).0))
+      (Ordered-lower low (max 0 s.from) (its s) (omega (arith, o.0)) (ordered_in s.from s.till s.value 0 (decision_in ds s.value).copied (sound s.value).0))
       (omega (arith, o.0, o.1)) (over_ordered s.till ss o.2)
 
   -- what another decision copies behind does not go on with it
@@ -54,14 +51,10 @@ module _ (ds : List Decision) (sound : (n : ℕ) → IsSound (decision_in ds n))
       by_list [] lies = apart_behind same_copy x q.till (copies_over ds qs) (omega (arith, ends, o.0, o.1)) (over_ordered q.till qs o.2)
       by_list (y ∷ ys) lies = by_test (x.till == y.from) (λ e. rw e (met e)) (λ e. rw e refl)
         where
-          last_of : (b d : Bool) → b ≡ true → (b && d) ≡ false → d ≡ false
-          last_of true d e f = f
-          last_of false d e f = absurd (cc)
-
           met : (x.till == y.from) ≡ true → ((x.value.place == y.value.place) && (x.value.told.stamp == y.value.told.stamp)) ≡ false
           met e =
               let meets : s.till ≡ q.from = omega (arith, ends, o.0, lies.0, eqb-true x.till y.from e) in
-              let other : (s.value == q.value) ≡ false = last_of (s.till == q.from) (s.value == q.value) (equal s.till q.from meets) a in
+              let other : (s.value == q.value) ≡ false = and_last (s.till == q.from) (s.value == q.value) (eq-eqb s.till q.from meets) a in
               rw (is, lies.2, other) refl
 
   over_joined : (low : ℕ) (ss : List (Stretch ℕ)) → Ordered low ss → IsJoined same_number ss → IsJoined same_copy (copies_over ds ss)

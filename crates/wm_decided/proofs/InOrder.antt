@@ -2,6 +2,7 @@
 use Rattle.std.proofs.Common.{◌≡◌, ℕ, ◌≤◌, ◌==◌, ◌&&◌, ◌||◌, nat_lt, Bool, true, false, not, Option, List, [], ◌∷◌, ◌++◌, map, refl, ap, ◌∙◌, arith}
 use Rattle.std.proofs.lemmas.Bool.Decides.{nat_tests}
 use Rattle.std.proofs.lemmas.List.{map-append}
+use Rattle.std.proofs.lemmas.Bool.{and_from, or_from}
 use Rattle.std.specs.List.{AllByRecursion, flat_map, list_any}
 use Rattle.std.specs.Ordering.{is_gt}
 use Rattle.std.specs.declared.cmp.Ordering.{Ordering}
@@ -14,7 +15,6 @@ use Rattle.wm_net.specs.Listed.{Ordered, Stretch, listed, listing, stretches_of}
 use Rattle.wm_spec.proofs.Stretches.{Up-cuts}
 use Rattle.wm_spec.specs.Lists.{Cell, Entry}
 use Rattle.wm_spec.specs.Stretches.{cuts}
-use Rattle.wm_state.proofs.Tests.{and_true}
 use Rattle.wm_state.specs.Drafts.{are_in_order, entry_order, mark_entry, mark_piece}
 use Rattle.wm_state.specs.Editing.{settled_by}
 use Rattle.wm_state.specs.Entries.{piece_of, pieces_of}
@@ -31,14 +31,11 @@ IsBefore g (e ∷ es) = not (is_gt (group_order g (group_of e))) ≡ true
 
 in_order-cons : (e : Entry) (es : List Entry) → IsBefore (group_of e) es → are_in_order es ≡ true → are_in_order (e ∷ es) ≡ true
 in_order-cons e [] before rest = refl
-in_order-cons e (f ∷ fs) before rest = and_true (not (is_gt (entry_order e f))) (are_in_order (f ∷ fs)) before rest
+in_order-cons e (f ∷ fs) before rest = and_from (not (is_gt (entry_order e f))) (are_in_order (f ∷ fs)) before rest
 
 -- no entry is of the group
 abbrev IsNoneOf : Group → List Entry → Type 0
 IsNoneOf g es = AllByRecursion (λ (e : Entry). same_group g (group_of e) ≡ false) es
-
-neither : (a b : Bool) → a ≡ false → b ≡ false → (a || b) ≡ false
-neither a b e f = rw (e, f) refl
 
 last_fails : (a b d : Bool) → d ≡ false → (a && (b && d)) ≡ false
 last_fails true true d e = e
@@ -90,7 +87,7 @@ module _ {A : Type 0} (entry : Group → Stretch A → Entry) (over : IsOver ent
   apart_rest : (g : Group) (s : Stretch A) (rest : List Entry) → IsNoneOf g rest → list_any (collide (piece_of 0 (entry g s))) (pieces_of 0 rest) ≡ false
   apart_rest g s [] none = refl
   apart_rest g s (e ∷ rest) none =
-      neither (collide (piece_of 0 (entry g s)) (piece_of 0 e)) (list_any (collide (piece_of 0 (entry g s))) (pieces_of 0 rest))
+      or_from (collide (piece_of 0 (entry g s)) (piece_of 0 e)) (list_any (collide (piece_of 0 (entry g s))) (pieces_of 0 rest))
       (second_fails (let version : ℕ = 0 in version == 0) (same_group (group_of (entry g s)) (group_of e)) (nat_lt (entry g s).from e.till && nat_lt e.from (entry g s).till)
       (ap (λ (x : Group). same_group x (group_of e)) (over.group g s) ∙ none.0))
       (apart_rest g s rest none.1)
@@ -100,7 +97,7 @@ module _ {A : Type 0} (entry : Group → Stretch A → Entry) (over : IsOver ent
       → list_any (collide (piece_of 0 (entry g s))) (pieces_of 0 (map (entry g) ss ++ rest)) ≡ false
   apart_own g s low [] rest le o none = apart_rest g s rest none
   apart_own g s low (q ∷ ss) rest le o none =
-      neither (collide (piece_of 0 (entry g s)) (piece_of 0 (entry g q))) (list_any (collide (piece_of 0 (entry g s))) (pieces_of 0 (map (entry g) ss ++ rest)))
+      or_from (collide (piece_of 0 (entry g s)) (piece_of 0 (entry g q))) (list_any (collide (piece_of 0 (entry g s))) (pieces_of 0 (map (entry g) ss ++ rest)))
       (last_fails ((let version : ℕ = 0 in version == 0) && same_group (group_of (entry g s)) (group_of (entry g q))) (nat_lt (entry g s).from (entry g q).till) (nat_lt (entry g q).from (entry g s).till)
       (late (entry g s).till low (entry g q).from (omega (arith, over.till g s, le)) (omega (arith, over.from g q, o.0))))
       (apart_own g s q.till ss rest (omega (arith, le, o.0, o.1)) o.2 none)
@@ -112,7 +109,7 @@ module _ {A : Type 0} (entry : Group → Stretch A → Entry) (over : IsOver ent
       → differ collide (pieces_of 0 (map (entry g) ss ++ rest)) ≡ true
   apart_group g low [] rest o none apart = apart
   apart_group g low (s ∷ ss) rest o none apart =
-      and_true (not (list_any (collide (piece_of 0 (entry g s))) (pieces_of 0 (map (entry g) ss ++ rest)))) (differ collide (pieces_of 0 (map (entry g) ss ++ rest)))
+      and_from (not (list_any (collide (piece_of 0 (entry g s))) (pieces_of 0 (map (entry g) ss ++ rest)))) (differ collide (pieces_of 0 (map (entry g) ss ++ rest)))
       (ap not (apart_own g s s.till ss rest (omega arith) o.2 none)) (apart_group g s.till ss rest o.2 none apart)
 
   apart_listed : (F : Group → List (Stretch A)) (gs : List Group) → GroupsAscend gs → ((g : Group) → Ordered 0 (F g)) → differ collide (pieces_of 0 (listed entry F gs)) ≡ true

@@ -4,6 +4,7 @@ use Rattle.std.proofs.lemmas.List.{get_or_default, length-map, map-append}
 use Rattle.std.proofs.lemmas.List.Elements.{filter_map-append}
 use Rattle.std.proofs.lemmas.Option.{slice_get-map}
 use Rattle.std.proofs.Math.Seq.{take-append_seam}
+use Rattle.std.proofs.lemmas.Bool.{or_from}
 use Rattle.std.specs.List.{filter_map, list_any}
 use Rattle.std.specs.Option.{option_or}
 use Rattle.std.specs.Str.{bytes_eq}
@@ -35,9 +36,6 @@ declared_at act columns more count place e =
 
 -- ---- WM_VALID is there
 
-either : (a b : Bool) → a ≡ false → b ≡ false → (a || b) ≡ false
-either a b e f = rw (e, f) refl
-
 module _ (name : List ℕ) where
   abbrev valid : Column
   valid = valid_column name
@@ -51,7 +49,7 @@ module _ (name : List ℕ) where
 
   none_of : (source : Option (List ℕ)) (ks : List TableColumn) → is_of_source source valid ≡ false → list_any (is_of_source source) (all ks) ≡ false
   none_of source [] e = rw e refl
-  none_of source (k ∷ ks) e = either (is_of_source source (declared_column name k)) (list_any (is_of_source source) (all ks)) (of_source source k ∙ e) (none_of source ks e)
+  none_of source (k ∷ ks) e = or_from (is_of_source source (declared_column name k)) (list_any (is_of_source source) (all ks)) (of_source source k ∙ e) (none_of source ks e)
 
   some_named : (test : Column → Bool) (ks : List TableColumn) → test valid ≡ true → list_any test (all ks) ≡ true
   some_named test [] e = rw e refl

@@ -4,6 +4,7 @@ use Rattle.std.proofs.lemmas.Cmp.{nat_cmp_total, on_total, then_total}
 use Rattle.std.proofs.lemmas.List.{length-map, map-append}
 use Rattle.std.proofs.lemmas.List.Elements.{All-head, All-tail}
 use Rattle.std.proofs.lemmas.Map.Entries.{btree_map_get_place}
+use Rattle.std.proofs.lemmas.Bool.{or_parts}
 use Rattle.std.specs.BTreeMap as tree
 use Rattle.std.specs.BTreeMap.{BTreeMap, IsOrdered}
 use Rattle.std.specs.Cmp.{IsTotalOrder}
@@ -23,7 +24,6 @@ use Rattle.wm_period.specs.declared.piece.Piece.{Piece}
 use Rattle.wm_spec.specs.Lists.{Cell}
 use Rattle.wm_state.specs.Editing.{entry_of, settled_by}
 use Rattle.wm_state.specs.State.{Decision}
-use Rattle.wm_state.proofs.Tests.{either_false}
 use Rattle.wm_state.specs.declared.edit.NewEntry.{NewEntry}
 use Rattle.wm_state.specs.declared.edit.NewMark.{NewMark}
 use Rattle.wm_decided.proofs.Chosen.{Changes-chosen, Changes-copied, chosen_is, choice_in, copied_is}
@@ -52,7 +52,7 @@ ascend (q ∷ qs) sorted = (first qs sorted.0, ascend qs sorted.1)
 none_under : (es : List (Place × List Piece)) (c : Cell) → has_group (of_cell c) (map group_in (map (λ e. e.0) es)) ≡ false → lookup (tree.is_at (place_order (c.table, c.key))) es ≡ None
 none_under [] c none = refl
 none_under (e ∷ es) c none =
-    let two = either_false (same_group (group_in e.0) (of_cell c)) (has_group (of_cell c) (map group_in (map (λ (x : Place × List Piece). x.0) es))) none in
+    let two = or_parts (same_group (group_in e.0) (of_cell c)) (has_group (of_cell c) (map group_in (map (λ (x : Place × List Piece). x.0) es))) none in
     let first : tree.is_at (place_order (c.table, c.key)) e.0 ≡ false = tied c.table e.0.0 _ ∙ same_group-sym (of_cell c) (group_in e.0) ∙ two.0 in
     rw first (none_under es c two.1)
 

@@ -14,6 +14,7 @@ use Rattle.wm_period.proofs.Order.{held_at-early}
 use Rattle.wm_period.specs.Pieces as pieces
 use Rattle.wm_period.specs.Pieces.{Between, Held, held, held_at}
 use Rattle.wm_period.specs.declared.piece.Piece.{Piece}
+use Rattle.wm_period.proofs.Canonical.{held_at-first, held_at-others}
 use Rattle.wm_spec.proofs.Stretches.{by_test}
 use Rattle.wm_spec.specs.Lists.{Cell, Entry, covers}
 use Rattle.wm_decided.specs.Counted.{place_over, placed, places_over}
@@ -32,18 +33,12 @@ none_placed (Some n) e = absurd (cc)
 
 -- ---- the first piece and the others
 
-first_held : (p : Piece) (ps : List Piece) (t : ℕ) → p.period.from ≤ t → t < p.period.till → held_at (p ∷ ps) t ≡ Some (held p)
-first_held p ps t from till = rw (within_is p.period.from p.period.till t from till) refl
-
-others_held : (p : Piece) (ps : List Piece) (t : ℕ) → p.period.till ≤ t → held_at (p ∷ ps) t ≡ held_at ps t
-others_held p ps t late = rw (within_not_after p.period.from p.period.till t late) refl
-
 first_is : (f : ℕ → Option ℕ) (low : ℕ) (p : Piece) (ps : List Piece) (t : ℕ) → Tells f low (p ∷ ps) → low ≤ t → p.period.from ≤ t → t < p.period.till
     → (f t ≡ Some p.stamp.number) × (held p ≡ placed p.stamp.number)
-first_is f low p ps t tells le from till = placed_is (f t) (held p) (sym (first_held p ps t from till) ∙ tells t le)
+first_is f low p ps t tells le from till = placed_is (f t) (held p) (sym (held_at-first p ps t from till) ∙ tells t le)
 
 others_tell : (f : ℕ → Option ℕ) (low : ℕ) (p : Piece) (ps : List Piece) → low ≤ p.period.from → p.period.from < p.period.till → Tells f low (p ∷ ps) → Tells f p.period.till ps
-others_tell f low p ps le real tells t late = sym (others_held p ps t late) ∙ tells t (omega (arith, le, real, late))
+others_tell f low p ps le real tells t late = sym (held_at-others p ps t late) ∙ tells t (omega (arith, le, real, late))
 
 -- ---- as stretches
 

@@ -1,7 +1,6 @@
 -- Each entry that decisions come to is on cells of one of them and says what that copies, and each mark is on cells of one and has its position.
 use Rattle.std.proofs.Common.{◌≡◌, ℕ, ◌-◌, ◌<◌, ◌≤◌, ◌⊎◌, inl, inr, ◌==◌, ◌&&◌, nat_le, nat_lt, Bool, true, false, List, [], ◌∷◌, ◌++◌, map, slice_get, suc, Option, None, Some, option_map, refl, sym, ap, ◌∙◌, arith, eqb-true, subst}
-use Rattle.std.proofs.lemmas.Bool.{and_parts}
-use Rattle.std.proofs.lemmas.Bool.Decides.{nat_tests}
+use Rattle.std.proofs.lemmas.Bool.{and_parts, leb-true, ltb-true}
 use Rattle.std.proofs.lemmas.List.Elements.{All-from_recursion}
 use Rattle.std.specs.Bool.{then_some}
 use Rattle.std.specs.List.{All, AllByRecursion, flat_map}
@@ -113,13 +112,7 @@ are_of d g from till some over =
     parts t e =
         let two = and_parts (same_group own g) (nat_le d.from t && nat_lt t d.till) e in
         let time = and_parts (nat_le d.from t) (nat_lt t d.till) two.1 in
-        (same_group-is own g two.0, at_most d.from t time.0, less t d.till time.1)
-      where
-        at_most : (m n : ℕ) → nat_le m n ≡ true → m ≤ n
-        at_most m n e = grind (arith, nat_tests, e)
-
-        less : (m n : ℕ) → nat_lt m n ≡ true → m < n
-        less m n e = grind (arith, nat_tests, e)
+        (same_group-is own g two.0, leb-true d.from t time.0, ltb-true t d.till time.1)
 
 -- ---- marks
 

@@ -2,17 +2,16 @@
 ghost use Rattle.std.specs.Prelude.{◌≡◌, map, None, option_copied, slice_get, IfOk, true};
 ghost use Rattle.wm_base.specs.Views.{filter_view};
 ghost use Rattle.wm_decided.specs.Keys.{columns_of_keys, key_as_row, key_columns};
-ghost use Rattle.wm_typing.specs.Columns.{declared_column, valid_column};
+ghost use Rattle.wm_typing.specs.Columns.{declared_column};
 ghost use Rattle.wm_typing.specs.Names.{unknown_in_filter};
 ghost use Rattle.wm_typing.specs.Types.{is_filter_typed, mistyped_in_filter};
 
 use std::alloc::Global;
-use wm_base::columns::PERIOD;
 use wm_base::tree::cond::Cond;
 use wm_base::values::copies_of;
 use wm_base::{Column, Columns, Key, Memory, Name, Row, Value, Values};
 use wm_spec::record::Table;
-use wm_typing::columns_of_table;
+use wm_typing::columns::{columns_of_table, valid_column};
 use wm_typing::names::unknown_in_filter;
 use wm_typing::types::mistyped_in_filter;
 
@@ -36,17 +35,6 @@ fn key_columns(alloc: Global, table: &Table) -> Result<Vec<Column>, Memory>
         }
     }
     Ok(columns)
-}
-
-/// The column of the periods of validity.
-fn valid_column(alloc: Global, source: &Name) -> Result<Column, Memory>
-    ensures { IfOk result (λ made. made ≡ valid_column source.now) }
-{
-    Ok(Column {
-        source: source.copy(alloc)?,
-        name: Name::copy_of(alloc, b"WM_VALID")?,
-        kind: PERIOD,
-    })
 }
 
 /// The columns that a condition over keys may name. Behind the key columns stands WM_VALID, twice, so that no name means

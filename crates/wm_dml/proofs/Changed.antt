@@ -1,9 +1,9 @@
 -- The rows that UPDATE and DELETE write are in order.
-use Rattle.std.proofs.Common.{◌≡◌, ℕ, suc, Bool, true, false, nat_lt, List, [], ◌∷◌, length, map, refl, sym, ap, ◌∙◌, arith}
+use Rattle.std.proofs.Common.{◌≡◌, ℕ, suc, true, false, nat_lt, List, [], ◌∷◌, length, map, refl, sym, ap, ◌∙◌, arith}
 use Rattle.std.proofs.lemmas.Bool.{and_from, and_parts}
+use Rattle.std.proofs.Math.Bool.{and-false}
 use Rattle.std.specs.Prelude.{Option, Some, None, ◌&&◌, option_map}
 use Rattle.std.specs.List.{list_all}
-use Rattle.std.specs.Option.{option_or}
 use Rattle.std.specs.Ordering.{is_eq}
 use Rattle.wm_base.proofs.Plain.{none_mapped, option_or_parts}
 use Rattle.wm_base.specs.Orders.{key_order-itself}
@@ -12,7 +12,8 @@ use Rattle.wm_base.specs.Trees.{Cond, Set}
 use Rattle.wm_base.specs.declared.row.Row.{Row}
 use Rattle.wm_base.specs.declared.value.Value.{Value}
 use Rattle.wm_graph.specs.Rules.{is_table, has_key, key_of, is_row_of, is_key_of, is_key, are_typed}
-use Rattle.wm_making.specs.Rows.{first_column, lacks_value, heavy_part, is_filled, null_in, too_heavy, row_fault}
+use Rattle.wm_making.specs.Rows.{first_column, lacks_value, heavy_part, is_filled, null_in, too_heavy}
+use Rattle.wm_making.proofs.Written.{nothing_found}
 use Rattle.wm_spec.specs.Expressions.{has_no_empty_period}
 use Rattle.wm_spec.specs.declared.record.column.TableColumn.{TableColumn}
 use Rattle.wm_spec.specs.declared.record.table.Table.{Table}
@@ -45,11 +46,7 @@ gone_periods t within (row ∷ rows) = ap (λ periods. shared (row_period t row)
 -- no values are no key
 none_typed : (columns : List TableColumn) (places : List ℕ) → (nat_lt 0 (length places) && are_typed columns places []) ≡ false
 none_typed columns [] = refl
-none_typed columns (place ∷ places) = never (nat_lt 0 (length (place ∷ places)))
-  where
-    never : (b : Bool) → (b && false) ≡ false
-    never true = refl
-    never false = refl
+none_typed columns (place ∷ places) = and-false (nat_lt 0 (length (place ∷ places)))
 
 -- a key of the table's is that of the row
 pub same_key : (t : Table) (row : List Value) → is_key_of (row_key t row) t ≡ true → is_key (row_key t row) (key_of t row) ≡ true
@@ -103,11 +100,6 @@ fault_parts t rows none =
     let parts = option_or_parts (option_map null_in (first_some (λ row. first_column (lacks_value t) 0 t.columns row) rows)) (option_map too_heavy (first_some (heavy_part t) rows)) none in
     (none_mapped null_in (first_some (λ row. first_column (lacks_value t) 0 t.columns row) rows) parts.0, none_mapped too_heavy (first_some (heavy_part t) rows) parts.1)
 
-not_refused : (t : Table) (row : List Value) → first_column (lacks_value t) 0 t.columns row ≡ None → heavy_part t row ≡ None → row_fault t row ≡ None
-unfolding row_fault
-not_refused t row full light =
-    ap (λ o. option_or (option_map null_in o) (option_map too_heavy (heavy_part t row))) full ∙ ap (λ o. option_map too_heavy o) light
-
 -- ---- the law
 
 rows_made : (first : Option (List Value)) (rest : Option (List (List Value))) (news : List (List Value)) → row_before first rest ≡ Some news →
@@ -134,7 +126,7 @@ rows_replace t sets order keyed typed unset (row ∷ rows) news old made full li
     let fulls = option_or_parts (first_column (lacks_value t) 0 t.columns parts.0) (first_some (λ row. first_column (lacks_value t) 0 t.columns row) parts.1)
     (sym (ap (first_some (λ row. first_column (lacks_value t) 0 t.columns row)) parts.4) ∙ full) in
     let lights = option_or_parts (heavy_part t parts.0) (first_some (heavy_part t) parts.1) (sym (ap (first_some (heavy_part t)) parts.4) ∙ light) in
-    let one = row_replaces t sets row parts.0 order keyed typed unset olds.0 parts.2 (not_refused t parts.0 fulls.0 lights.0) in
+    let one = row_replaces t sets row parts.0 order keyed typed unset olds.0 parts.2 (nothing_found t parts.0 fulls.0 lights.0) in
     let rest = rows_replace t sets order keyed typed unset rows parts.1 olds.1 parts.3 fulls.1 lights.1 in (
       ap (list_all (stands_in t)) parts.4 ∙ and_from _ _ one.0 rest.0,
       ap (map (row_key t)) parts.4 ∙ ap (λ key. key ∷ map (row_key t) parts.1) one.1 ∙ ap (λ keys. row_key t (declared_values t row.values) ∷ keys) rest.1,

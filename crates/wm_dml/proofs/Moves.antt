@@ -5,6 +5,7 @@ use Rattle.std.proofs.lemmas.List.{take_all}
 use Rattle.std.proofs.lemmas.List.Folds.{list_all-append, list_all-map}
 use Rattle.std.specs.Prelude.{Option, not, ◌&&◌}
 use Rattle.std.specs.List.{list_all, list_any, flat_map}
+use Rattle.wm_base.proofs.Plain.{and_swap}
 use Rattle.wm_base.specs.Period.{Span, equals}
 use Rattle.wm_base.specs.Trees.{Set}
 use Rattle.wm_base.specs.declared.row.Row.{Row}
@@ -67,17 +68,12 @@ moved_fit t sets (old ∷ olds) (row ∷ news) all =
 
 -- ---- all that is written
 
-turned_round : (a b c : Bool) → (a && (b && c)) ≡ (b && (a && c))
-turned_round true b c = refl
-turned_round false true c = refl
-turned_round false false c = refl
-
 all-placed : {X : Type 0} (p : X → Bool) (lt : X → X → Bool) (x : X) (ys : List X) → list_all p (placed lt x ys) ≡ (p x && list_all p ys)
 all-placed p lt x [] = refl
 all-placed p lt x (y ∷ ys) = choose (lt y x) (all-placed p lt x ys)
   where
     choose : (b : Bool) → list_all p (placed lt x ys) ≡ (p x && list_all p ys) → list_all p (cond b (y ∷ placed lt x ys) (x ∷ y ∷ ys)) ≡ (p x && (p y && list_all p ys))
-    choose true rest = ap (λ b. p y && b) rest ∙ turned_round (p y) (p x) (list_all p ys)
+    choose true rest = ap (λ b. p y && b) rest ∙ and_swap (p y) (p x) (list_all p ys)
     choose false rest = refl
 
 -- what holds of all holds of them in order

@@ -1,6 +1,7 @@
 -- Rows of a table without valid time hold always, and are nothing but their declared values.
-use Rattle.std.proofs.Common.{◌≡◌, Bool, true, false, cond, List, [], ◌∷◌, length, map, take, drop, refl, ap, ◌∙◌}
+use Rattle.std.proofs.Common.{◌≡◌, true, false, cond, List, [], ◌∷◌, length, map, take, drop, refl, ap, ◌∙◌}
 use Rattle.std.proofs.lemmas.Bool.{and_from}
+use Rattle.std.proofs.Math.Bool.{and-true}
 use Rattle.std.specs.Prelude.{◌&&◌, slice_get, unwrap_or}
 use Rattle.std.specs.List.{list_all}
 use Rattle.std.specs.Option.{option_and_then}
@@ -28,12 +29,8 @@ pub plain_overlap : (t : Table) (rows : List Row) → t.valid ≡ false → all_
 plain_overlap t [] plain = refl
 plain_overlap t (row ∷ rows) plain = and_from _ _ (ap (λ p. overlaps p always) (plain_period t row plain)) (plain_overlap t rows plain)
 
-and_nothing : (a : Bool) → (a && true) ≡ a
-and_nothing true = refl
-and_nothing false = refl
-
 pub plain_shown : (t : Table) (vs : List Value) → t.valid ≡ false → is_shown t vs ≡ stands_in t vs
-plain_shown t vs plain = ap (λ valid. stands_in t (cond valid (take (length t.columns) vs) vs) && cond valid (is_period_alone (drop (length t.columns) vs)) true) plain ∙ and_nothing (stands_in t vs)
+plain_shown t vs plain = ap (λ valid. stands_in t (cond valid (take (length t.columns) vs) vs) && cond valid (is_period_alone (drop (length t.columns) vs)) true) plain ∙ and-true (stands_in t vs)
 
 pub plain_stand : (t : Table) (rows : List Row) → t.valid ≡ false → all_stand t rows ≡ list_all (λ (r : Row). stands_in t r.values) rows
 plain_stand t [] plain = refl

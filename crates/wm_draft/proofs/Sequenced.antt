@@ -1,5 +1,6 @@
 -- Edits that are drafted one after the other.
 use Rattle.std.proofs.Common.{◌≡◌, ◌<◌, ◌≤◌, ◌+◌, ◌-◌, ◌==◌, ℕ, suc, true, false, List, [], ◌∷◌, ◌++◌, length, vec_len, refl, sym, ap, subst, ◌∙◌, append_assoc, append-nil, arith}
+use Rattle.std.proofs.lemmas.Bool.{eqb-false, or_parts}
 use Rattle.wm_graph.specs.Parts.{parts_of}
 use Rattle.wm_spec.specs.declared.record.batch.Change.{Change}
 use Rattle.wm_spec.specs.declared.record.stored.Stored.{Stored}
@@ -10,7 +11,7 @@ use Rattle.wm_graph.specs.Rules.{keep_rules}
 use Rattle.wm_prices.proofs.Spending.{spends_more}
 use Rattle.wm_prices.specs.Prices.{Costs, Spends}
 use Rattle.wm_state.proofs.Batches.{Ascend-applied}
-use Rattle.wm_state.proofs.ById.{either-none, eqb-apart, one_order}
+use Rattle.wm_state.proofs.ById.{one_order}
 use Rattle.wm_state.proofs.Drafted.{drafts_nothing}
 use Rattle.wm_state.proofs.DraftedMore.{drafts_followed, work_first, work_left}
 use Rattle.wm_state.proofs.Following.{applied_followed, applied_same}
@@ -104,7 +105,7 @@ drafted_all rs m e done edits front last all now d are is =
 -- changes are away from an id that they do not change
 away : (id : ℕ) (cs : List Change) → list_any (is_change_of id) cs ≡ false → AwayFrom id cs
 away id [] none = tt
-away id (c ∷ cs) none = let h = either-none (c.id == id) (list_any (is_change_of id) cs) none in (eqb-apart c.id id h.0, away id cs h.1)
+away id (c ∷ cs) none = let h = or_parts (c.id == id) (list_any (is_change_of id) cs) none in (eqb-false c.id id h.0, away id cs h.1)
 
 -- changes that are made once more make nothing of the records
 again : (rs : List Stored) (cs : List Change) → Ascend rs → applied cs (applied cs rs) ≡ applied cs rs

@@ -53,9 +53,9 @@ fn push_both(
             return Err(fault);
         }
     };
-    let said = push_others(all, changes.into_vec(), &ids);
+    let pushed = push_others(all, changes.into_vec(), &ids);
     drop(ids);
-    match said {
+    match pushed {
         // All of the later ones.
         Ok(()) => push_others(all, later.into_vec(), &BTreeSet::new(alloc)),
         Err(fault) => {

@@ -1,5 +1,6 @@
 -- Each instant that a date text means is below the end.
 use Rattle.std.proofs.Common.{◌≡◌, ℕ, ◌+◌, ◌*◌, ◌<◌, ◌≤◌, Bool, true, false, ◌&&◌, List, [], ◌∷◌, Result, Ok, Err, refl, arith, pos, ◌-ℤ◌, ◌≤ℤ◌, unsigned_abs}
+use Rattle.std.proofs.lemmas.Bool.{and_parts}
 use Rattle.std.specs.Prelude.{if◌then◌else◌}
 use Rattle.jiff_core.specs.declared.civil.date.Date.{Date}
 use Rattle.jiff_core.specs.Calendar.{days_from_civil, IsCivilDate}
@@ -8,14 +9,10 @@ use Rattle.jiff_core.proofs.DateLemmas.{epoch_day_range}
 use Rattle.jiff_core.proofs.SignedLemmas.{signed_arith, one_part}
 use Rattle.wm_base.specs.declared.instant.TheConstants.{END}
 use Rattle.wm_grammar.specs.Meaning.{instant_for, instant_or_first}
-use Rattle.wm_instants.proofs.CivilLemmas.{first_day, first_day-least}
+use Rattle.wm_instants.proofs.CivilLemmas.{first_day, first_day-least, below_end}
 use Rattle.wm_instants.specs.Instants.{day_letter, day_start, field, has_form, hour_letter, instant_at, instant_by, instant_in, is_clock, is_date, forms_of, minute_letter, month_letter, read_by, second_letter, year_letter}
 use Rattle.wm_instants.specs.declared.form.DateForm.{DateForm}
 use Rattle.wm_instants.specs.declared.refusal.InstantRefusal.{InstantRefusal}
-
-both_true : (p q : Bool) → p && q ≡ true → (p ≡ true) × (q ≡ true)
-both_true true q e = (refl, e)
-both_true false q e = cc
 
 civil_from : (y m d : ℕ) → is_date y m d ≡ true → IsCivilDate (pos y) m d × (1 ≤ y)
 civil_from y m d e = grind (arith, signed_arith)
@@ -35,9 +32,6 @@ days_of y m d civil first =
     let at : Date = record { year = pos y; month = m; day = d; year_in = civil.0; month_in = civil.1; day_in = civil.2 } in
     days_behind at (omega (arith, signed_arith))
 
-below_end : (k h m s : ℕ) → k ≤ 3_652_058 → h < 24 → m < 60 → s < 60 → k * 86_400 + (h * 3600 + m * 60 + s) < END
-below_end k h m s a b c d = omega arith
-
 -- what is there is below the end
 abbrev IsBelow : Result ℕ InstantRefusal → Type 0
 IsBelow (Ok n) = n < END
@@ -49,7 +43,7 @@ by_test false n e below = tt
 
 at_below : (y m d h mi s : ℕ) → IsBelow (instant_at y m d h mi s)
 at_below y m d h mi s = by_test (is_date y m d && is_clock h mi s) (day_start y m d + (h * 3600 + mi * 60 + s)) _ (λ is.
-    let parts = both_true (is_date y m d) (is_clock h mi s) is in
+    let parts = and_parts (is_date y m d) (is_clock h mi s) is in
     let civil = civil_from y m d parts.0 in
     let clock = clock_from h mi s parts.1 in
     below_end _ h mi s (days_of y m d civil.0 civil.1) clock.0 clock.1 clock.2)

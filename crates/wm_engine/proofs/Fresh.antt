@@ -3,14 +3,15 @@ use Rattle.std.proofs.Common.{◌≡◌, ◌≢◌, ℕ, ◌+◌, ◌<◌, ◌�
 use Rattle.std.proofs.lemmas.Bool.{cases_eq}
 use Rattle.std.proofs.lemmas.Bool.Decides.{nat_tests}
 use Rattle.std.proofs.lemmas.List.Elements.{All-nil}
+use Rattle.std.proofs.lemmas.Option.{none-some}
 use Rattle.std.specs.List.{slice_get}
 use Rattle.std.specs.Bool.{then_some}
 use Rattle.std.specs.Option.{option_map, option_and_then}
 use Rattle.wm_graph.specs.Parts.{Parts, parts_of, space_of}
 use Rattle.wm_graph.specs.Rules.{keep_rules, are_counters}
+use Rattle.wm_model.proofs.Lawful.Runs.{one_live}
 use Rattle.wm_period.specs.Pieces.{Held}
 use Rattle.wm_spec.specs.Lists.{Cell, Entry, Told, told, touched}
-use Rattle.wm_spec.specs.declared.record.savepoint.Savepoint.{Savepoint as Record}
 use Rattle.wm_state.specs.ById.{by_id}
 use Rattle.wm_state.specs.State.{Durable, Workspace, Savepoint, Turn, content, fresh, fresh_live, log_of, savepoint_made, savepoints_of, turn_of, turns_of, workspace_of}
 use Rattle.wm_state.specs.Standing.{Base, Birth, Covers, HasRow, IsReal, IsRealMark, Kept, KeptBase, KeptOwn, Names, Newest, Own, Owns, Stands, Tells, Top, fields_in, fields_of, fields_saved, has_history, held_of, latest, logged_as, seen, seen_above, turned_in}
@@ -46,23 +47,6 @@ own_none limit base version c = by_base (version == base) (1 == version)
     by_base false false = refl
     by_base false true = refl
 
--- LIVE alone is there
-only_live : (n : ℕ) (w : Workspace) → workspace_of (fresh_live ∷ []) n ≡ Some w → w ≡ fresh_live
-only_live n w found = by_test (0 == n) found
-  where
-    nothing : Option Workspace
-    nothing = None
-
-    same : Some fresh_live ≡ Some w → w ≡ fresh_live
-    same e = cc
-
-    none_some : nothing ≡ Some w → ⊥
-    none_some e = cc
-
-    by_test : (b : Bool) → cond b (Some fresh_live) nothing ≡ Some w → w ≡ fresh_live
-    by_test true e = same e
-    by_test false e = absurd (none_some e)
-
 told_none : (w : Workspace) (c : Cell) → w ≡ fresh_live → told (content w) c ≡ None
 told_none w c is = rw is refl
 
@@ -75,13 +59,10 @@ fields_same limit n = by_test (0 == n)
 
 -- and no other workspace
 alone : (n : ℕ) (w : Workspace) → 0 < n → workspace_of (fresh_live ∷ []) n ≡ Some w → ⊥
-alone n w some found = none_some (rw (away n some) at found)
+alone n w some found = none-some w (rw (away n some) at found)
   where
     away : (m : ℕ) → 0 < m → (0 == m) ≡ false
     away m lt = grind (arith, nat_tests, lt)
-
-    none_some : (let nothing : Option Workspace = None in nothing) ≡ Some w → ⊥
-    none_some e = cc
 
 -- so what is there is LIVE
 live_alone : (n : ℕ) (w : Workspace) → workspace_of (fresh_live ∷ []) n ≡ Some w → n ≡ 0
@@ -100,7 +81,7 @@ none_saved n = by_space (workspace_of (fresh_live ∷ []) n) refl
   where
     by_space : (o : Option Workspace) → workspace_of (fresh_live ∷ []) n ≡ o → [] ≡ map fields_saved (savepoints_of (fresh_live ∷ []) n)
     by_space None e = rw e refl
-    by_space (Some w) e = rw e (ap (λ (v : Workspace). map fields_saved v.savepoints) (sym (only_live n w e)))
+    by_space (Some w) e = rw e (ap (λ (v : Workspace). map fields_saved v.savepoints) (sym (one_live n w e)))
 
 -- nor an entry of a log
 none_logged : (n : ℕ) → log_of (fresh_live ∷ []) n ≡ []
@@ -108,7 +89,7 @@ none_logged n = by_space (workspace_of (fresh_live ∷ []) n) refl
   where
     by_space : (o : Option Workspace) → workspace_of (fresh_live ∷ []) n ≡ o → log_of (fresh_live ∷ []) n ≡ []
     by_space None e = rw e refl
-    by_space (Some w) e = rw e (ap (λ (v : Workspace). v.lists.log) (only_live n w e))
+    by_space (Some w) e = rw e (ap (λ (v : Workspace). v.lists.log) (one_live n w e))
 
 -- nor a turn
 none_turned : (n : ℕ) → turns_of (fresh_live ∷ []) n ≡ []
@@ -116,37 +97,25 @@ none_turned n = by_space (workspace_of (fresh_live ∷ []) n) refl
   where
     by_space : (o : Option Workspace) → workspace_of (fresh_live ∷ []) n ≡ o → turns_of (fresh_live ∷ []) n ≡ []
     by_space None e = rw e refl
-    by_space (Some w) e = rw e (ap (λ (v : Workspace). v.turns) (only_live n w e))
+    by_space (Some w) e = rw e (ap (λ (v : Workspace). v.turns) (one_live n w e))
 
 no_turn : (n number : ℕ) (w : Workspace) (t : Turn) → workspace_of (fresh_live ∷ []) n ≡ Some w → turn_of w number ≡ Some t → ⊥
-no_turn n number w t is turn = none_some (ap (λ (v : Workspace). turn_of v number) (sym (only_live n w is)) ∙ turn)
-  where
-    none_some : (let nothing : Option Turn = None in nothing) ≡ Some t → ⊥
-    none_some e = cc
-
-no_record : (x : Record) → (let nothing : Option Record = None in nothing) ≡ Some x → ⊥
-no_record x e = cc
+no_turn n number w t is turn = none-some t (ap (λ (v : Workspace). turn_of v number) (sym (one_live n w is)) ∙ turn)
 
 none_made : (n making : ℕ) (w : Workspace) (k : Savepoint) → workspace_of (fresh_live ∷ []) n ≡ Some w → savepoint_made making w.savepoints ≡ Some k → ⊥
-none_made n making w k is made = none_some (ap (λ (v : Workspace). savepoint_made making v.savepoints) (sym (only_live n w is)) ∙ made)
-  where
-    none_some : (let nothing : Option Savepoint = None in nothing) ≡ Some k → ⊥
-    none_some e = cc
+none_made n making w k is made = none-some k (ap (λ (v : Workspace). savepoint_made making v.savepoints) (sym (one_live n w is)) ∙ made)
 
 none_told : (w : Workspace) (c : Cell) (t : Told) → w ≡ fresh_live → told (content w) c ≡ Some t → ⊥
-none_told w c t is e = none_some (sym (told_none w c is) ∙ e)
-  where
-    none_some : (let nothing : Option Told = None in nothing) ≡ Some t → ⊥
-    none_some e = cc
+none_told w c t is e = none-some t (sym (told_none w c is) ∙ e)
 
 -- of the versions that are named there is that of LIVE alone
 named_tells : (limit v n r : ℕ) (es : List Entry) → Names (fresh_parts limit) (fresh_durable limit) v n r es → Tells (fresh_parts limit) (fresh_live ∷ []) v n r es
 named_tells limit v n r es (Newest w is) = record {
-  holds = λ c. seen_none limit (latest (fresh_parts limit) n) c ∙ ap (option_map held_of) (sym (told_none w c (only_live n w is)));
+  holds = λ c. seen_none limit (latest (fresh_parts limit) n) c ∙ ap (option_map held_of) (sym (told_none w c (one_live n w is)));
   climbs = Top (live_alone n w is);
-  rows = λ c t row e h. absurd (none_told w c t (only_live n w is) e);
+  rows = λ c t row e h. absurd (none_told w c t (one_live n w is) e);
 }
-named_tells limit v n r es (Kept making w k x is made saved) = absurd (no_record x saved)
+named_tells limit v n r es (Kept making w k x is made saved) = absurd (none-some x saved)
 named_tells limit v n r es (Birth {n = i} w a t some is recorded turn) = absurd (alone i w some is)
 named_tells limit v n r es (Base {n = i} w a t some is recorded turn) = absurd (alone i w some is)
 named_tells limit v n r es (KeptBase {n = i} making w k x t some is made saved turn) = absurd (alone i w some is)
@@ -154,10 +123,10 @@ named_tells limit v n r es (KeptBase {n = i} making w k x t some is made saved t
 -- and nothing is its own
 own_covers : (limit base version : ℕ) (es : List Entry) → Owns (fresh_parts limit) (fresh_durable limit) base version es → Covers (fresh_parts limit) base version es
 own_covers limit base version es (Own n w r is found) = record {
-  cells = λ c. ap is_some (own_none limit base (latest (fresh_parts limit) n) c) ∙ sym (ap (λ (v : Workspace). touched v.lists.own c) (only_live n w is));
+  cells = λ c. ap is_some (own_none limit base (latest (fresh_parts limit) n) c) ∙ sym (ap (λ (v : Workspace). touched v.lists.own c) (one_live n w is));
   ends = refl;
 }
-own_covers limit base version es (KeptOwn n making w k x is made saved based) = absurd (no_record x saved)
+own_covers limit base version es (KeptOwn n making w k x is made saved based) = absurd (none-some x saved)
 
 counted : (limit : ℕ) → 1 ≤ limit → limit ≤ 1048576 → are_counters (fresh_counters limit) ≡ true
 counted limit some most = rw (one limit some, few limit most, next limit) refl
@@ -187,15 +156,15 @@ fresh_stands limit some most = record {
     same = λ n number. ap (λ ts. option_map turned_in (slice_get ts number)) (sym (none_turned n));
   };
   touches = record {
-    latest = λ n w is. rw (only_live n w is) (record { reaches = λ c. refl; ends = refl });
+    latest = λ n w is. rw (one_live n w is) (record { reaches = λ c. refl; ends = refl });
     kept = λ n making w k is made. absurd (none_made n making w k is made);
   };
-  marks = record { same = λ n w place c is. rw (only_live n w is) refl; real = λ n w is. rw (only_live n w is) (All-nil IsRealMark) };
+  marks = record { same = λ n w place c is. rw (one_live n w is) refl; real = λ n w is. rw (one_live n w is) (All-nil IsRealMark) };
   later = record { locks = refl };
   hists = record { same = λ n position. ap (λ es. option_and_then (λ (e : Entry). then_some (has_history [] e.table) (logged_as e)) (slice_get es position)) (sym (none_logged n)) };
   entries = record {
     logs = λ n. rw (none_logged n) (All-nil (IsReal []));
-    own = λ n w is. rw (only_live n w is) (All-nil (IsReal []));
+    own = λ n w is. rw (one_live n w is) (All-nil (IsReal []));
     kept = λ n making w k is made. absurd (none_made n making w k is made);
   };
   rows = record {

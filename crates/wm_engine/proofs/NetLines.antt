@@ -1,6 +1,7 @@
 -- Lines that refresh a workspace, or merge it and let it be: what they are is left by SYSDATE, and what others are not.
 use Rattle.std.proofs.Common.{◌≡◌, ℕ, ◌+◌, ◌&&◌, Bool, true, false, cond, if◌then◌else◌, List, [], ◌∷◌, map, length, Option, Some, None, unwrap_or, refl, ap, ◌∙◌}
 use Rattle.std.proofs.lemmas.List.{length-map}
+use Rattle.std.proofs.lemmas.Option.{same_Some, none-some}
 use Rattle.std.specs.Option.{option_map}
 use Rattle.wm_base.specs.Trees.{Line}
 use Rattle.wm_base.specs.Trees as trees
@@ -21,16 +22,10 @@ use Rattle.wm_engine.specs.NetLines.{nets_call, nets_of_line}
 
 -- ---- which workspace
 
-pub no_workspace : (workspace : List ℕ) → (let nothing : Option (List ℕ) = None in nothing) ≡ Some workspace → ⊥
-no_workspace workspace e = cc
-
-pub one_workspace : (given workspace : List ℕ) → Some given ≡ Some workspace → given ≡ workspace
-one_workspace given workspace e = cc
-
 -- a merge that is asked for removes nothing
 pub merges_alone : (removes : Bool) (given workspace : List ℕ) → (if removes then None else Some given) ≡ Some workspace → (removes ≡ false) × (given ≡ workspace)
-merges_alone true given workspace e = absurd (no_workspace workspace e)
-merges_alone false given workspace e = (refl, one_workspace given workspace e)
+merges_alone true given workspace e = absurd (none-some workspace e)
+merges_alone false given workspace e = (refl, same_Some given workspace e)
 
 -- ---- arguments with the moment in the place of SYSDATE
 

@@ -1,7 +1,8 @@
 -- What a store that was opened stands for.
-use Rattle.std.proofs.Common.{◌≡◌, ℕ, ◌<◌, ◌&&◌, nat_lt, nat_le, ◌+◌, ◌^◌, max, Bool, true, false, List, [], ◌∷◌, Result, Ok, refl, sym, ap, subst, ◌∙◌, arith}
+use Rattle.std.proofs.Common.{◌≡◌, ℕ, ◌<◌, ◌&&◌, nat_lt, nat_le, ◌+◌, ◌^◌, max, true, false, List, [], ◌∷◌, Result, Ok, refl, sym, ap, subst, ◌∙◌, arith}
 use Rattle.std.proofs.lemmas.Bool.Decides.{nat_tests}
 use Rattle.std.proofs.lemmas.List.Elements.{All-nil}
+use Rattle.std.proofs.lemmas.Bool.{and_parts, true≢false}
 use Rattle.wm_base.specs.declared.fault.Damage.{Damage}
 use Rattle.wm_base.specs.declared.fault.Damage.TheVariants.{Graph}
 use Rattle.wm_base.specs.declared.fault.OpenFault.TheVariants.{Damaged}
@@ -26,13 +27,6 @@ use Rattle.wm_engine.specs.Working.{FileStands, damage_in}
 pub breaks : (file : List ℕ) (records : List Stored) → Held records file → (AreRecords records → keep_rules (parts_of (by_id records)) ≡ false) → (is_made file ≡ true) × damage_in (opened file) (Damaged 0 Graph)
 breaks file records held broken = (held.made, subst (λ (r : Result (List Stored) (ℕ × Damage)). damage_in r (Damaged 0 Graph)) (sym held.opens) (broken (held_differ records file held), refl))
 
-bool_apart : true ≡ false → ⊥
-bool_apart e = cc
-
-both : (a b : Bool) → (a && b) ≡ true → (a ≡ true) × (b ≡ true)
-both true b e = (refl, e)
-both false b e = absurd (bool_apart (sym e))
-
 first_counters : (b d : Counters) → (b ∷ []) ≡ (d ∷ []) → b ≡ d
 first_counters b d e = cc
 
@@ -42,7 +36,7 @@ max_before m n lt e = grind (arith, nat_tests, lt, e)
 
 -- a run begins before the end of time
 pub begins_before : (rs : List Stored) (c : Counters) (m : ℕ) → keep_rules (parts_of rs) ≡ true → (parts_of rs).counters ≡ c ∷ [] → m < END → max m c.last_moment < END
-begins_before rs c m rules one lt = max_before m c.last_moment lt (both (nat_lt c.last_moment END) (nat_le c.work (2 ^ 62) && nat_le c.next_version (c.work + 2)) (both _ (nat_lt c.last_moment END && (nat_le c.work (2 ^ 62) && nat_le c.next_version (c.work + 2))) counted).1).0
+begins_before rs c m rules one lt = max_before m c.last_moment lt (and_parts (nat_lt c.last_moment END) (nat_le c.work (2 ^ 62) && nat_le c.next_version (c.work + 2)) (and_parts _ (nat_lt c.last_moment END && (nat_le c.work (2 ^ 62) && nat_le c.next_version (c.work + 2))) counted).1).0
   where
     counted : are_counters c ≡ true
     counted = let r = ruled (parts_of rs) rules in ap are_counters (sym (first_counters r.counters c (sym r.one ∙ one))) ∙ r.counted

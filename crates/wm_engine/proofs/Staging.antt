@@ -1,6 +1,7 @@
 -- What sessions have staged can be committed still once a line was run.
 use Rattle.std.proofs.Common.{◌≡◌, ℕ, ◌+◌, ◌≤◌, ◌==◌, nat_le, Bool, true, false, cond, if◌then◌else◌, List, [], ◌∷◌, ◌++◌, Option, Some, None, unwrap_or, refl, sym, ap, subst, ◌∙◌, arith}
 use Rattle.std.proofs.lemmas.List.Elements.{All-append, All-filter, All-map, All-nil, All-push, All-weaker}
+use Rattle.std.proofs.lemmas.Bool.{le-leb, true≢false}
 use Rattle.std.specs.Option.{option_and_then, option_map, option_map_or}
 use Rattle.std.specs.Str.{bytes_eq}
 use Rattle.wm_base.specs.declared.row.Row.{Row}
@@ -27,9 +28,9 @@ use Rattle.wm_state.specs.declared.edit.Edit.{Edit}
 use Rattle.wm_state.specs.declared.edit.Edit.TheVariants as edits
 use Rattle.wm_state.proofs.Counting.{counts_in}
 use Rattle.wm_state.proofs.Frames.{KeepRows}
-use Rattle.wm_state.proofs.Keeping.{KeepTables, are_cells-kept, asked, le_of, lt_le}
+use Rattle.wm_state.proofs.Keeping.{KeepTables, are_cells-kept, asked, lt_le}
 use Rattle.wm_state.proofs.Ready.{tables_found}
-use Rattle.wm_state.proofs.Tests.{bool_apart, find_push}
+use Rattle.wm_state.proofs.Tests.{find_push}
 use Rattle.wm_engine.specs.Keeping.{AreDrafted}
 
 -- ---- what edits leave of a state
@@ -130,7 +131,7 @@ parts_kept : (rs new : List Stored) (m : ℕ) (es : List Edit) (s : Durable) →
 parts_kept rs new m es s sorted st made = record {
   before = st.counters.counters;
   one = st.counters.one;
-  stamps = λ c one. le_of _ _ (no_fewer c (counts_in (parts_of new) (drafted m es s) c stands.counters one).next_stamp);
+  stamps = λ c one. le-leb _ _ (no_fewer c (counts_in (parts_of new) (drafted m es s) c stands.counters one).next_stamp);
   tables = λ n t found. let x = table n t found in record { new = x.new; is = x.is; columns = x.columns; key_columns = x.key_columns };
   on = λ n is. by_table n (table_of (parts_of rs).tables n) refl is;
   rows = rows_found_next rs new sorted stands.rules (λ id r found. ap (λ ss. record_at ss id) made.is ∙ made.drafts.rows id r found);
@@ -151,7 +152,7 @@ parts_kept rs new m es s sorted st made = record {
         record { new = x.new; is = sym (tables_found (parts_of new) (drafted m es s) stands.tables n) ∙ x.is; columns = x.columns; key_columns = x.key_columns; on = x.on }
 
     by_table : (n : ℕ) (o : Option Table) → table_of (parts_of rs).tables n ≡ o → option_map_or (λ (t : Table). t.versioned) o false ≡ true → is_ready (parts_of new).tables n ≡ true
-    by_table n None found is = absurd (bool_apart (sym is))
+    by_table n None found is = absurd (true≢false (sym is))
     by_table n (Some t) found is = let x = table n t found in rw x.is (x.on is)
 
 -- ---- what was staged of them

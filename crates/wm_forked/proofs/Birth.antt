@@ -1,8 +1,10 @@
 -- A workspace is born: what is looked up then, and the fields of the records. BornStands has the clauses on what is held.
 use Rattle.std.proofs.Common.{◌≡◌, ◌≢◌, ℕ, ◌+◌, ◌==◌, Bool, true, false, cond, List, [], ◌∷◌, ◌++◌, map, Option, Some, None, refl, sym, ap, ◌∙◌, ◌⊎◌, inl, inr, length, length-append}
-use Rattle.std.proofs.lemmas.Bool.{cases_eq, eq-eqb, ne_eqb}
+use Rattle.std.proofs.lemmas.Bool.{cases_eq, eq-eqb, ne_eqb, or_parts}
+use Rattle.std.proofs.lemmas.Option.{same_Some}
 use Rattle.std.specs.List.{filter, find, list_any}
 use Rattle.std.specs.Option.{option_or, option_map}
+use Rattle.wm_base.proofs.Plain.{none_mapped, option_or-none}
 use Rattle.wm_graph.specs.Parts.{Parts, space_of}
 use Rattle.wm_graph.specs.Rules.{differ}
 use Rattle.wm_spec.specs.declared.record.savepoint.Savepoint.{Savepoint as Record}
@@ -12,7 +14,7 @@ use Rattle.wm_state.specs.State.{Durable, Workspace, Savepoint, workspace_of, sa
 use Rattle.wm_state.specs.Standing.{fields_of, fields_in, saved_fields, fields_saved, by_making, saved_in, by_number, CountersStand, SpacesStand, FieldsStand}
 use Rattle.wm_state.specs.Effects.{Born}
 use Rattle.wm_state.proofs.Mapped.{none-found}
-use Rattle.wm_state.proofs.Tests.{differ_push, either_false}
+use Rattle.wm_state.proofs.Tests.{differ_push}
 
 -- ---- what is looked up
 
@@ -25,10 +27,6 @@ find_more {A = A} P (y ∷ ys) x = by_test (P y) (find_more P ys x)
     by_test true rest = refl
     by_test false rest = rest
 
-or-none : {A : Type 0} (o : Option A) → option_or o None ≡ o
-or-none None = refl
-or-none (Some a) = refl
-
 -- one of a new number is found by it, and every other as before
 pub find_numbered : {A : Type 0} (number_of : A → ℕ) (xs : List A) (x : A) (m : ℕ) → find (λ y. number_of y == number_of x) xs ≡ None
     → find (λ y. number_of y == m) (xs ++ x ∷ []) ≡ cond (m == number_of x) (Some x) (find (λ y. number_of y == m) xs)
@@ -37,14 +35,7 @@ find_numbered number_of xs x m none = find_more (λ y. number_of y == m) xs x �
     by_number : (m ≡ number_of x) ⊎ (m ≢ number_of x)
         → option_or (find (λ y. number_of y == m) xs) (cond (number_of x == m) (Some x) None) ≡ cond (m == number_of x) (Some x) (find (λ y. number_of y == m) xs)
     by_number (inl same) = rw (eq-eqb _ _ same, eq-eqb _ _ (sym same), ap (λ k. find (λ y. number_of y == k) xs) same ∙ none) refl
-    by_number (inr other) = rw (ne_eqb _ _ other, ne_eqb (number_of x) m (λ same. other (sym same))) (or-none (find (λ y. number_of y == m) xs))
-
-map-none : {A : Type 0} {B : Type 0} (f : A → B) (o : Option A) → option_map f o ≡ None → o ≡ None
-map-none f None e = refl
-map-none f (Some x) e = cc
-
-pub some_same : {A : Type 0} (a b : A) → Some a ≡ Some b → a ≡ b
-some_same a b e = cc
+    by_number (inr other) = rw (ne_eqb _ _ other, ne_eqb (number_of x) m (λ same. other (sym same))) (option_or-none (find (λ y. number_of y == m) xs))
 
 -- what a look-up finds after a birth: what is new at the child's number, and elsewhere what was found before
 abbrev pub Is : {A : Type 0} → Option A → ℕ → ℕ → A → A → Type 0
@@ -54,14 +45,14 @@ pub is_of : {A : Type 0} (before after : Option A) (n m : ℕ) (child found : A)
 is_of before after n m child found e is = by_number (cases_eq m n)
   where
     by_number : (m ≡ n) ⊎ (m ≢ n) → Is before n m child found
-    by_number (inl same) = inl (same, sym (some_same child found (sym (ap (λ b. cond b (Some child) before) (eq-eqb _ _ same)) ∙ sym e ∙ is)))
+    by_number (inl same) = inl (same, sym (same_Some child found (sym (ap (λ b. cond b (Some child) before) (eq-eqb _ _ same)) ∙ sym e ∙ is)))
     by_number (inr other) = inr (other, sym (ap (λ b. cond b (Some child) before) (ne_eqb _ _ other)) ∙ sym e ∙ is)
 
 -- ---- the records agree with the state with the workspace more
 
 -- no workspace had the child's number
 pub child_none : (p : Parts) (s : Durable) (r : Space) → SpacesStand p s → space_of p.spaces r.number ≡ None → workspace_of s.spaces r.number ≡ None
-child_none p s r stand none = map-none fields_in (workspace_of s.spaces r.number) (sym (stand.same r.number) ∙ ap (option_map fields_of) none)
+child_none p s r stand none = none_mapped fields_in (workspace_of s.spaces r.number) (sym (stand.same r.number) ∙ ap (option_map fields_of) none)
 
 -- it is found by it, and every other as before
 pub child_found : (s t : Durable) (r : Space) (w : Workspace) → w.number ≡ r.number → workspace_of s.spaces r.number ≡ None → t.spaces ≡ s.spaces ++ w ∷ [] → (m : ℕ)
@@ -106,7 +97,7 @@ FieldsStand-born p q s t r number turn w b st fields number_is no_savepoints spa
       where
         none_kept : (P : Record → Bool) (ys : List Record) → list_any P ys ≡ false → filter P ys ≡ []
         none_kept P [] e = refl
-        none_kept P (y ∷ ys) e = let h = either_false (P y) (list_any P ys) e in rw h.0 (none_kept P ys h.1)
+        none_kept P (y ∷ ys) e = let h = or_parts (P y) (list_any P ys) e in rw h.0 (none_kept P ys h.1)
 
     saved_same : (m : ℕ) → map saved_fields (saved_in q m) ≡ map fields_saved (savepoints_of t.spaces m)
     saved_same m =

@@ -1,7 +1,9 @@
 -- A workspace is born at a savepoint that is made for it: the records with both.
-use Rattle.std.proofs.Common.{◌≡◌, ℕ, ◌<◌, ◌≤◌, nat_lt, suc, Bool, true, List, [], ◌∷◌, ◌++◌, length, Some, refl, sym, ap, ◌∙◌, arith}
+use Rattle.std.proofs.Common.{◌≡◌, ℕ, ◌<◌, nat_lt, suc, Bool, true, List, [], ◌∷◌, ◌++◌, length, Some, refl, sym, ap, ◌∙◌, arith, le_refl}
+use Rattle.std.proofs.lemmas.Bool.{le-leb}
 use Rattle.std.specs.List.{list_all, list_any}
 use Rattle.std.specs.Str.{bytes_eq}
+use Rattle.wm_base.proofs.Plain.{nat_le-itself}
 use Rattle.wm_graph.specs.Parts.{Parts, space_of}
 use Rattle.wm_graph.specs.Rules.{keep_rules}
 use Rattle.wm_spec.specs.declared.record.counters.Counters.{Counters}
@@ -15,7 +17,7 @@ use Rattle.wm_state.specs.State.{Savepoint as Kept}
 use Rattle.wm_state.specs.Standing.{Kept as KeptAs, fields_of, fields_in, saved_fields, fields_saved, turned, turned_in, CountersStand, FieldsStand, SavepointsStand, Stands}
 use Rattle.wm_state.specs.Effects.{Saved, marked}
 use Rattle.wm_state.proofs.Tests.{all_swap, all_middle, any_swap}
-use Rattle.wm_state.proofs.Keeping.{SpaceStill, KeepSpaces-swap, le_itself, le_of}
+use Rattle.wm_state.proofs.Keeping.{SpaceStill, KeepSpaces-swap}
 use Rattle.wm_state.proofs.Naming.{Named-as}
 use Rattle.wm_forked.proofs.Birth.{FieldsStand-born}
 use Rattle.wm_forked.proofs.BornStands.{IsChild, Stands-born}
@@ -38,7 +40,7 @@ birthed p old new front a back place implicit x r v u = born (saved p (between o
 parent_still : (p : Parts) (old c : Counters) (front : List Space) (a : Space) (back : List Space) (place implicit : ℕ) (x : Savepoint) → MaySave p old c front a back place implicit x → (n : ℕ) (b : Space) → space_of p.spaces n ≡ Some b
     → SpaceStill (saved p c front a back place implicit x) n b
 parent_still p old c front a back place implicit x save n b found =
-    KeepSpaces-swap p (saved p c front a back place implicit x) front back a (marked place implicit a) refl refl (le_itself a.log_length) (le_of a.next_place place save.places) refl save.spaces refl n b found
+    KeepSpaces-swap p (saved p c front a back place implicit x) front back a (marked place implicit a) refl refl (nat_le-itself a.log_length) (le-leb a.next_place place save.places) refl save.spaces refl n b found
 
 may_bear : (p : Parts) (old new : Counters) (front : List Space) (a : Space) (back : List Space) (place implicit : ℕ) (x : Savepoint) (b r : Space) (v : Version) (u : Turn) (save : MaySave p old (between old new) front a back place implicit x)
     (bear : MayBear p old new b r v u) → MayBear (saved p (between old new) front a back place implicit x) (between old new) new (parent_still p old (between old new) front a back place implicit x save r.parent b bear.parent).new r v u
@@ -47,7 +49,7 @@ may_bear p old new front a back place implicit x b r v u save bear = record {
   counters = bear.counters;
   stamps = refl;
   next = bear.next;
-  work = itself new.work;
+  work = le_refl new.work;
   room = as_long (length p.spaces) (length (front ++ marked place implicit a ∷ back)) (ap length save.spaces ∙ sym (length-put front back (marked place implicit a) a)) bear.room;
   after = all_swap lower lower a (marked place implicit a) front back (λ s h. h) (all_middle lower a front back after) after;
   unnamed = any_swap same_name a (marked place implicit a) refl front back ∙ ap (list_any same_name) (sym save.spaces) ∙ bear.unnamed;
@@ -76,9 +78,6 @@ may_bear p old new front a back place implicit x b r v u save bear = record {
 
     after : list_all lower (front ++ a ∷ back) ≡ true
     after = ap (list_all lower) (sym save.spaces) ∙ bear.after
-
-    itself : (n : ℕ) → n ≤ n
-    itself n = omega arith
 
     as_long : (m n : ℕ) → m ≡ n → m < 1024 → n < 1024
     as_long m n same lt = omega (arith, same, lt)

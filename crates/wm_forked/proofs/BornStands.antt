@@ -1,8 +1,9 @@
 -- The records with a workspace more stand for the state with it: what is newest in it is under what its parent's version tells, and it
 -- has no changes, no savepoints and one turn.
-use Rattle.std.proofs.Common.{◌≡◌, ◌≢◌, ℕ, zero, suc, ◌+◌, ◌<◌, ◌≤◌, ◌==◌, true, false, ◌&&◌, cond, List, [], ◌∷◌, ◌++◌, length, Option, Some, None, refl, sym, ap, subst, ◌∙◌, ◌⊎◌, inl, inr, append-nil, arith}
-use Rattle.std.proofs.lemmas.Bool.{cases_eq, eq-eqb, ne_eqb}
+use Rattle.std.proofs.Common.{◌≡◌, ◌≢◌, ℕ, zero, suc, ◌+◌, ◌<◌, ◌≤◌, ◌==◌, true, false, ◌&&◌, cond, List, [], ◌∷◌, ◌++◌, length, Some, None, refl, sym, ap, subst, ◌∙◌, ◌⊎◌, inl, inr, append-nil, arith}
+use Rattle.std.proofs.lemmas.Bool.{cases_eq, eq-eqb, ne_eqb, and_parts}
 use Rattle.std.proofs.lemmas.List.Elements.{All-nil}
+use Rattle.std.proofs.lemmas.Option.{same_Some, none-some}
 use Rattle.std.specs.List.{All, list_any, slice_get}
 use Rattle.std.specs.Option.{option_map, option_or}
 use Rattle.wm_graph.specs.Parts.{Parts, space_of}
@@ -27,8 +28,7 @@ use Rattle.wm_state.proofs.Named.{version_below}
 use Rattle.wm_state.proofs.Naming.{Carries, Covers-as, Named-as, NamedStand-kept, Owned-as, OwnsStand-kept, Stays, Tells-as, WasNamed, carries-more, climbs_kept, named_of, own_there, there_of}
 use Rattle.wm_state.proofs.Ready.{KeepReady, KeepReady-same}
 use Rattle.wm_state.proofs.Staying.{AreReal, AreReal-same, AreTold, EntriesStand-kept, LaterStand-same, TouchesStand-kept, WasTold, WasTouched, entries_real, turns_in, turns_of-alike, turns_of-found}
-use Rattle.wm_state.proofs.Tests.{both}
-use Rattle.wm_forked.proofs.Birth.{FieldsStand-born, Is, child_found, child_none, find_more, is_of, some_same}
+use Rattle.wm_forked.proofs.Birth.{FieldsStand-born, Is, child_found, child_none, find_more, is_of}
 use Rattle.wm_forked.proofs.Placed.{tell_none}
 use Rattle.wm_forked.proofs.Sprouting.{Sprouted, covers-before, covers-sprout, newest-away, newest-here, seen-before, seen-sprout}
 
@@ -119,7 +119,7 @@ module _ (p q : Parts) (s t : Durable) (r : Space) (number : ℕ) (turn : TurnRe
 
   -- the turn of a workspace that is the child
   one_turn : (new : Workspace) (at : ℕ) (z : Turn) → new ≡ w → at ≡ 0 → turn_of new at ≡ Some z → z ≡ u
-  one_turn new at z same first is = some_same z u (sym is ∙ ap (λ (v : Workspace). turn_of v at) same ∙ ap (turn_of w) first ∙ first_turn)
+  one_turn new at z same first is = same_Some z u (sym is ∙ ap (λ (v : Workspace). turn_of v at) same ∙ ap (turn_of w) first ∙ first_turn)
 
   no_rebases : (new : Workspace) → new ≡ w → new.rebases ≡ 0
   no_rebases new same = ap (λ (v : Workspace). v.rebases) same ∙ rebases
@@ -172,10 +172,7 @@ module _ (p q : Parts) (s t : Durable) (r : Space) (number : ℕ) (turn : TurnRe
   carries = carries-more p q s.spaces t.spaces x rules b.versions b.below (λ v c lt. seen-before p q x grown v c lt) stays rows
     where
       stays : (m : ℕ) (old : Workspace) → workspace_of s.spaces m ≡ Some old → Stays t.spaces m old
-      stays m old is = record { new = old; is = found_away m (λ same. none_there (sym none ∙ ap (workspace_of s.spaces) (sym same) ∙ is)) ∙ is; parent = refl; turns = λ at z h. h }
-        where
-          none_there : (let nothing : Option Workspace = None in nothing) ≡ Some old → ⊥
-          none_there e = cc
+      stays m old is = record { new = old; is = found_away m (λ same. none-some old (sym none ∙ ap (workspace_of s.spaces) (sym same) ∙ is)) ∙ is; parent = refl; turns = λ at z h. h }
 
   NamedStand-born : keep_rules q ≡ true → NamedStand p s → NamedStand q t
   NamedStand-born after named = NamedStand-kept p q s t rules there named carries (λ v m i es. names_born v m i es newest)
@@ -239,7 +236,7 @@ module _ (p q : Parts) (s t : Durable) (r : Space) (number : ℕ) (turn : TurnRe
           ∙ find_more (λ (y : TurnRecord). (y.space == r.number) && (y.rebase == at)) p.turns turn
           ∙ ap (λ o. option_or o (cond ((turn.space == r.number) && (turn.rebase == at)) (Some turn) None))
           (find-none (λ (y : TurnRecord). (y.space == r.number) && (y.rebase == at)) p.turns
-          (any-if (λ (y : TurnRecord). y.space == r.number) (λ (y : TurnRecord). (y.space == r.number) && (y.rebase == at)) (λ y is. (both (y.space == r.number) (y.rebase == at) is).0) p.turns b.unturned))
+          (any-if (λ (y : TurnRecord). y.space == r.number) (λ (y : TurnRecord). (y.space == r.number) && (y.rebase == at)) (λ y is. (and_parts (y.space == r.number) (y.rebase == at) is).0) p.turns b.unturned))
           ∙ rw (eq-eqb _ _ b.turn_space, b.turn_number) refl
 
       apart : (k : ℕ) → (0 == suc k) ≡ false
@@ -316,7 +313,7 @@ module _ (p q : Parts) (s t : Durable) (r : Space) (number : ℕ) (turn : TurnRe
 
       -- the content of the one turn is named
       by_turn : (at : ℕ) (z : Turn) → slice_get (u ∷ []) at ≡ Some z → HasRows q z.content
-      by_turn zero z is = subst (λ (o : Turn). HasRows q o.content) (some_same u z is) (HasRows-kept p q rows u.content (named.tells _ _ _ _ child.named).rows)
+      by_turn zero z is = subst (λ (o : Turn). HasRows q o.content) (same_Some u z is) (HasRows-kept p q rows u.content (named.tells _ _ _ _ child.named).rows)
       by_turn (suc at) z is = absurd (none_some z at is)
 
       taken : (m at : ℕ) (new : Workspace) (z : Turn) → turn_of new at ≡ Some z → Is (workspace_of s.spaces m) r.number m w new → HasRows q z.content

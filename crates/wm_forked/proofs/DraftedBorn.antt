@@ -2,6 +2,8 @@
 use Rattle.std.proofs.Common.{◌≡◌, ℕ, ◌+◌, ◌<◌, ◌≤◌, ◌^◌, nat_lt, nat_le, true, false, List, [], ◌∷◌, ◌++◌, length, length-append, Option, Some, refl, sym, ap, subst, ◌∙◌, arith}
 use Rattle.std.proofs.lemmas.Fmt.{length-decimal-le}
 use Rattle.std.proofs.lemmas.Slice.Eq.{bytes_eq-Decides}
+use Rattle.std.proofs.lemmas.Option.{same_Some}
+use Rattle.std.proofs.lemmas.Bool.{true≢false}
 use Rattle.std.specs.Fmt.{decimal}
 use Rattle.std.specs.Option.{option_and_then, option_map, unwrap_or}
 use Rattle.std.specs.Str.{bytes_eq}
@@ -36,13 +38,11 @@ use Rattle.wm_state.proofs.Drafted.{some_edit}
 use Rattle.wm_forked.proofs.DraftedSaved.{home_of, home_there}
 use Rattle.wm_forked.proofs.FewChanged.{few_birth}
 use Rattle.wm_state.proofs.Mapped.{any-if, none-found}
-use Rattle.wm_state.proofs.Named.{one_space}
 use Rattle.wm_forked.proofs.PlannedBirth.{MayBirth, agree_birth, changes-birth, keep_plan_birth, plan_birth}
 use Rattle.wm_forked.proofs.Points.{MadeAt, MakesAt, is_point, made_as, made_there, may_save, place_same}
 use Rattle.wm_state.proofs.RowsStay.{AwayFrom, below_apart, row_apart, rows_stay}
 use Rattle.wm_state.proofs.Settled.{Places, PlacesApart, places_apart}
 use Rattle.wm_state.proofs.Spaces.{IsSpace, next_space_same, next_space_there, numbers_under}
-use Rattle.wm_state.proofs.Tests.{bool_apart}
 use Rattle.wm_state.proofs.WorkedOn.{counted_put, first_change}
 
 -- ---- the savepoint
@@ -76,7 +76,7 @@ bears_so p m work n at name a pt c rules can_work can there point one = record {
 }
   where
     same : can.space ≡ a
-    same = one_space can.space a (sym can.there ∙ there)
+    same = same_Some can.space a (sym can.there ∙ there)
 
 -- ---- the workspace
 
@@ -227,7 +227,7 @@ drafts_born rs m work n at name a pt c counters_id space_id id rules can_work ca
   nothing = some_edit (edits.Bear n at name) [] (birth_batch counters_id (versioned c m work) space_id (marked place implicit a) id x r v u);
   few = λ forks. few_birth rs counters_id space_id c (versioned c m work) a place implicit id x a r v u birth;
   spared = λ i entries one_append. absurd (no_append i entries one_append);
-  turned = λ left. absurd (bool_apart (sym left));
+  turned = λ left. absurd (true≢false (sym left));
 }
   where
     no_append : (i : ℕ) (entries : Vec NewEntry Global) → edits.Bear n at name ∷ [] ≡ edits.Append i entries ∷ [] → ⊥

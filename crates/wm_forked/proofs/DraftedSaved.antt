@@ -1,5 +1,7 @@
 -- What the batch that makes a savepoint makes of the records.
-use Rattle.std.proofs.Common.{◌≡◌, ℕ, ◌+◌, ◌≤◌, true, false, List, [], ◌∷◌, ◌++◌, Some, refl, sym, ap, subst, ◌∙◌, arith}
+use Rattle.std.proofs.Common.{◌≡◌, ℕ, ◌+◌, true, false, List, [], ◌∷◌, ◌++◌, Some, refl, sym, ap, subst, ◌∙◌, le_refl}
+use Rattle.std.proofs.lemmas.Option.{same_Some}
+use Rattle.std.proofs.lemmas.Bool.{true≢false}
 use Rattle.std.specs.Option.{option_and_then, option_map, unwrap_or}
 use Rattle.std.specs.declared.alloc.Global.{Global}
 use Rattle.std.specs.declared.vec.Vec.{Vec}
@@ -26,13 +28,12 @@ use Rattle.wm_state.proofs.Counting.{counts_as, counts_in, work_room}
 use Rattle.wm_state.proofs.Drafted.{some_edit}
 use Rattle.wm_forked.proofs.FewChanged.{few_saved}
 use Rattle.wm_forked.proofs.KeepSaved.{MaySave}
-use Rattle.wm_state.proofs.Named.{one_space, space_number}
+use Rattle.wm_state.proofs.Named.{space_number}
 use Rattle.wm_forked.proofs.PlannedSaved.{agree_saved, changes-saved, keep_plan_saved, plan_saved}
 use Rattle.wm_forked.proofs.Points.{MakesAt, made_as, made_there, may_save}
 use Rattle.wm_state.proofs.RowsStay.{new_apart, row_apart, rows_stay}
 use Rattle.wm_state.proofs.Settled.{Places, PlacesApart, places_apart}
 use Rattle.wm_state.proofs.Spaces.{IsSpace, space_there}
-use Rattle.wm_state.proofs.Tests.{bool_apart}
 use Rattle.wm_state.proofs.WorkedOn.{counted_put, first_change}
 
 -- ---- the workspace
@@ -76,7 +77,7 @@ saves_so p m work n name a c rules can_work can there one = record {
   there = home_there p n a there;
   point = refl;
   short = can.short;
-  room = subst (λ b. HasRoom p b name) (one_space can.space a (sym can.there ∙ there)) can.room;
+  room = subst (λ b. HasRoom p b name) (same_Some can.space a (sym can.there ∙ there)) can.room;
   early = can_work.early;
   some = can_work.some;
   spare = work_room p m work c can_work one;
@@ -114,7 +115,7 @@ drafts_saved rs m work n name a c counters_id space_id id rules can_work can the
   nothing = some_edit (edits.Save n name) [] (savepoint_batch counters_id (moved c m work) space_id (marked (a.next_place + 1) a.next_implicit a) id x);
   few = λ forks. few_saved rs counters_id space_id c (moved c m work) a (a.next_place + 1) a.next_implicit id x at;
   spared = λ i entries one_append. absurd (no_append i entries one_append);
-  turned = λ left. absurd (bool_apart (sym left));
+  turned = λ left. absurd (true≢false (sym left));
 }
   where
     no_append : (i : ℕ) (entries : Vec NewEntry Global) → edits.Save n name ∷ [] ≡ edits.Append i entries ∷ [] → ⊥
@@ -126,12 +127,9 @@ drafts_saved rs m work n name a c counters_id space_id id rules can_work can the
     apart : PlacesApart counters_id space_id id
     apart = places_apart rs counters_id space_id id c a at
 
-    itself : (k : ℕ) → k ≤ k
-    itself k = omega arith
-
     may_keep : (front back : List Space) → (parts_of rs).spaces ≡ front ++ a ∷ back → MaySave (parts_of rs) c (moved c m work) front a back (a.next_place + 1) a.next_implicit x
     may_keep front back spaces =
-        may_save (parts_of rs) a c m work Latest (newest_point (parts_of rs) a m) name false a.next_implicit (saves_so (parts_of rs) m work n name a c rules can_work can there at.one) (itself a.next_implicit) front back spaces
+        may_save (parts_of rs) a c m work Latest (newest_point (parts_of rs) a m) name false a.next_implicit (saves_so (parts_of rs) m work n name a c rules can_work can there at.one) (le_refl a.next_implicit) front back spaces
 
     batch : List Change
     batch = savepoint_batch counters_id (moved c m work) space_id (marked (a.next_place + 1) a.next_implicit a) id x

@@ -1,12 +1,14 @@
 -- The records with a savepoint more.
 use Rattle.std.proofs.Common.{◌≡◌, ◌≢◌, ℕ, ◌+◌, ◌^◌, ◌≤◌, ◌==◌, nat_lt, nat_le, Bool, true, false, ◌&&◌, cond, if◌then◌else◌, List, [], ◌∷◌, ◌++◌, Option, Some, None, refl, sym, ap, subst, ◌∙◌, ◌⊎◌, inl, inr, length, length-append, arith}
-use Rattle.std.proofs.lemmas.Bool.{cases_eq, eq-eqb, ne_eqb}
+use Rattle.std.proofs.lemmas.Bool.{cases_eq, eq-eqb, ne_eqb, and_from, and_parts, le-leb, true≢false}
 use Rattle.std.proofs.lemmas.List.Elements.{filter-append}
 use Rattle.std.proofs.lemmas.List.Sums.{length-filter}
 use Rattle.std.proofs.lemmas.Slice.Eq.{bytes_eq-Decides}
+use Rattle.std.proofs.lemmas.Option.{same_Some}
 use Rattle.std.specs.List.{list_all, list_any, filter, count_by}
 use Rattle.std.specs.Option.{option_map}
 use Rattle.std.specs.Str.{bytes_eq}
+use Rattle.wm_base.proofs.Plain.{nat_le-itself, nat_lt-apart}
 use Rattle.wm_graph.specs.Parts.{Parts, space_of, version_of, has_version}
 use Rattle.wm_graph.specs.Rules.{keep_rules, are_counters, are_spaces, is_space, is_placed, is_short, are_versions, has_versions, is_version_of, is_base_of, is_saved_in, are_savepoints, is_savepoint, same_savepoint, has_few, are_rows, are_pieces, are_hists, are_locks, differ}
 use Rattle.wm_spec.specs.declared.record.counters.Counters.{Counters}
@@ -16,19 +18,19 @@ use Rattle.wm_state.specs.State.{Durable, Workspace, workspace_of, with_space, w
 use Rattle.wm_state.specs.State.{Savepoint as Kept}
 use Rattle.wm_state.specs.Standing.{latest, saved_as, SpaceFields, saved_fields, fields_saved, CountersStand, FieldsStand, Stands}
 use Rattle.wm_state.specs.Effects.{Saved, marked}
-use Rattle.wm_state.proofs.Apart.{ruled, keeps_all, ruled_versions, newest_record, found-passes}
+use Rattle.wm_state.proofs.Apart.{ruled, each_space, keeps_all, ruled_versions, newest_record, found-passes}
 use Rattle.wm_state.proofs.Climbing.{Recorded, recorded_of}
 use Rattle.wm_state.proofs.Growing.{same_counters}
 use Rattle.wm_state.proofs.KeepingTurns.{are_touches-kept, are_locks-kept, are_marks-kept, are_turns-kept, turned-swap}
 use Rattle.wm_state.proofs.Making.{same_making}
 use Rattle.wm_state.proofs.Mapped.{any-if, none-found}
-use Rattle.wm_state.proofs.Keeping.{KeepSpaces, le_itself, le_of, KeepTables-same, KeepSpaces-swap, KeepVersions-same, KeepRows-same, is_savepoint-kept, are_hists-kept}
+use Rattle.wm_state.proofs.Keeping.{KeepSpaces, KeepTables-same, KeepSpaces-swap, KeepVersions-same, KeepRows-same, is_savepoint-kept, are_hists-kept}
 use Rattle.wm_state.proofs.Respaced.{MayReplace, spaces_replaced, versions_replaced, space_here, space_elsewhere}
-use Rattle.wm_state.proofs.Named.{one_space, ruled_savepoints, space_number, saved_there}
+use Rattle.wm_state.proofs.Named.{ruled_savepoints, space_number, saved_there}
 use Rattle.wm_state.proofs.SavedAs.{named_as}
 use Rattle.wm_forked.proofs.SavedStands.{IsKept, Stands-saved}
 use Rattle.wm_forked.proofs.Saving.{FieldsStand-saved}
-use Rattle.wm_state.proofs.Tests.{bool_apart, both, and_true, all_if, all_push, all_swap, all_middle, differ_push, none_if}
+use Rattle.wm_state.proofs.Tests.{all_if, all_push, all_swap, all_middle, differ_push, none_if}
 
 -- the records with a savepoint more of a workspace, whose record has counted it, and other counters
 abbrev pub saved : Parts → Counters → List Space → Space → List Space → ℕ → ℕ → Savepoint → Parts
@@ -66,20 +68,13 @@ le_more m n k le e = grind (arith, le, e)
 marked_counted : (spaces : ℕ → Option Space) (a : Space) (place implicit : ℕ) → a.next_place ≤ place → a.next_implicit ≤ implicit → is_space spaces a ≡ true
     → (is_short a.writer && (nat_le 1 place && (nat_le 1 implicit && nat_le a.log_length (2 ^ 62)))) ≡ true
 marked_counted spaces a place implicit places implicits e =
-    let h = both (is_placed spaces a && (is_short a.name && is_short a.writer)) (nat_le 1 a.next_place && (nat_le 1 a.next_implicit && nat_le a.log_length (2 ^ 62))) e in
-    let g = both (is_placed spaces a) (is_short a.name && is_short a.writer) h.0 in
-    let k = both (nat_le 1 a.next_place) (nat_le 1 a.next_implicit && nat_le a.log_length (2 ^ 62)) h.1 in
-    let l = both (nat_le 1 a.next_implicit) (nat_le a.log_length (2 ^ 62)) k.1 in
-    and_true (is_short a.writer) _ (both (is_short a.name) (is_short a.writer) g.1).1
-    (and_true (nat_le 1 place) _ (le_more 1 a.next_place place places k.0)
-    (and_true (nat_le 1 implicit) (nat_le a.log_length (2 ^ 62)) (le_more 1 a.next_implicit implicit implicits l.0) l.1))
-
--- a workspace that is there is in order
-each_space : (spaces : List Space) → are_spaces spaces ≡ true → list_all (is_space (space_of spaces)) spaces ≡ true
-each_space spaces e =
-    let h = both _ (differ (λ (s t : Space). s.number == t.number) spaces && (differ (λ (s t : Space). bytes_eq s.name t.name) spaces && list_all (is_space (space_of spaces)) spaces)) e in
-    let g = both (differ (λ (s t : Space). s.number == t.number) spaces) _ h.1 in
-    (both (differ (λ (s t : Space). bytes_eq s.name t.name) spaces) (list_all (is_space (space_of spaces)) spaces) g.1).1
+    let h = and_parts (is_placed spaces a && (is_short a.name && is_short a.writer)) (nat_le 1 a.next_place && (nat_le 1 a.next_implicit && nat_le a.log_length (2 ^ 62))) e in
+    let g = and_parts (is_placed spaces a) (is_short a.name && is_short a.writer) h.0 in
+    let k = and_parts (nat_le 1 a.next_place) (nat_le 1 a.next_implicit && nat_le a.log_length (2 ^ 62)) h.1 in
+    let l = and_parts (nat_le 1 a.next_implicit) (nat_le a.log_length (2 ^ 62)) k.1 in
+    and_from (is_short a.writer) _ (and_parts (is_short a.name) (is_short a.writer) g.1).1
+    (and_from (nat_le 1 place) _ (le_more 1 a.next_place place places k.0)
+    (and_from (nat_le 1 implicit) (nat_le a.log_length (2 ^ 62)) (le_more 1 a.next_implicit implicit implicits l.0) l.1))
 
 spaces_marked : (front back : List Space) (a : Space) (place implicit : ℕ) → a.next_place ≤ place → a.next_implicit ≤ implicit → are_spaces (front ++ a ∷ back) ≡ true → are_spaces (front ++ marked place implicit a ∷ back) ≡ true
 spaces_marked front back a place implicit places implicits e =
@@ -89,7 +84,7 @@ spaces_marked front back a place implicit places implicits e =
 -- each workspace has as much of a log as it had, and has given as many places
 spaces_still : (p : Parts) (old new : Counters) (front : List Space) (a : Space) (back : List Space) (place implicit : ℕ) (x : Savepoint) → MaySave p old new front a back place implicit x → KeepSpaces p (saved p new front a back place implicit x)
 spaces_still p old new front a back place implicit x may =
-    KeepSpaces-swap p (saved p new front a back place implicit x) front back a (marked place implicit a) refl refl (le_itself a.log_length) (le_of a.next_place place may.places) refl may.spaces refl
+    KeepSpaces-swap p (saved p new front a back place implicit x) front back a (marked place implicit a) refl refl (nat_le-itself a.log_length) (le-leb a.next_place place may.places) refl may.spaces refl
 
 -- ---- savepoints
 
@@ -123,18 +118,15 @@ few_still xs x room s e = ap (λ n. nat_le n 4096) (count_push (λ (y : Savepoin
         ap (λ b. nat_le (count_by (λ (y : Savepoint). y.space == s.number) xs + cond b 1 0) 4096) (ne_eqb _ _ away)
         ∙ no_more (count_by (λ (y : Savepoint). y.space == s.number) xs) e
 
-lt_apart : (m n : ℕ) → nat_lt m n ≡ true → (m == n) ≡ false
-lt_apart m n lt = grind (arith, lt)
-
 -- the new savepoint itself
 new_savepoint : (p : Parts) (old new : Counters) (front : List Space) (a : Space) (back : List Space) (place implicit : ℕ) (x : Savepoint) → MaySave p old new front a back place implicit x → are_spaces (front ++ marked place implicit a ∷ back) ≡ true
     → is_savepoint (space_of (front ++ marked place implicit a ∷ back)) (version_of p.versions) new.work x ≡ true
 new_savepoint p old new front a back place implicit x may spaces =
-    and_true (is_short x.name && nat_le x.making (new.work + 2)) _ (and_true (is_short x.name) (nat_le x.making (new.work + 2)) may.name (le_of x.making (new.work + 2) may.making))
+    and_from (is_short x.name && nat_le x.making (new.work + 2)) _ (and_from (is_short x.name) (nat_le x.making (new.work + 2)) may.name (le-leb x.making (new.work + 2) may.making))
     (rw (space_here front back (marked place implicit a) x.space spaces may.space)
-    (and_true (is_version_of (version_of p.versions) x.version a.number && is_base_of (version_of p.versions) x.base_version a) (nat_lt x.place place && nat_le x.log_length a.log_length)
-    (and_true (is_version_of (version_of p.versions) x.version a.number) (is_base_of (version_of p.versions) x.base_version a) may.version may.base)
-    (and_true (nat_lt x.place place) (nat_le x.log_length a.log_length) may.placed may.log)))
+    (and_from (is_version_of (version_of p.versions) x.version a.number && is_base_of (version_of p.versions) x.base_version a) (nat_lt x.place place && nat_le x.log_length a.log_length)
+    (and_from (is_version_of (version_of p.versions) x.version a.number) (is_base_of (version_of p.versions) x.base_version a) may.version may.base)
+    (and_from (nat_lt x.place place) (nat_le x.log_length a.log_length) may.placed may.log)))
 
 savepoints_kept : (p : Parts) (old new : Counters) (front : List Space) (a : Space) (back : List Space) (place implicit : ℕ) (x : Savepoint) → MaySave p old new front a back place implicit x → are_spaces (front ++ marked place implicit a ∷ back) ≡ true
     → are_savepoints p old.work ≡ true → are_savepoints (saved p new front a back place implicit x) new.work ≡ true
@@ -145,14 +137,14 @@ savepoints_kept p old new front a back place implicit x may spaces e =
     let ss = front ++ marked place implicit a ∷ back in
     let few : list_all (has_few p.savepoints) (front ++ a ∷ back) ≡ true = ap (list_all (has_few p.savepoints)) (sym may.spaces) ∙ r.few in
     let room : nat_lt (count_by (λ (y : Savepoint). y.space == x.space) p.savepoints) 4096 ≡ true = ap (λ n. nat_lt (count_by (λ (y : Savepoint). y.space == n) p.savepoints) 4096) (sym may.space) ∙ may.room in
-    and_true (differ same_making xs) _
-    (differ_push same_making p.savepoints x r.makings (none_if (λ (y : Savepoint). nat_lt y.making x.making) (λ (y : Savepoint). y.making == x.making) (λ y lt. lt_apart y.making x.making lt) p.savepoints may.after))
-    (and_true (differ same_savepoint xs) _ (differ_push same_savepoint p.savepoints x r.names may.unnamed)
-    (and_true (list_all (has_few xs) ss) (list_all (is_savepoint (space_of ss) (version_of p.versions) new.work) xs)
+    and_from (differ same_making xs) _
+    (differ_push same_making p.savepoints x r.makings (none_if (λ (y : Savepoint). nat_lt y.making x.making) (λ (y : Savepoint). y.making == x.making) (λ y lt. nat_lt-apart y.making x.making lt) p.savepoints may.after))
+    (and_from (differ same_savepoint xs) _ (differ_push same_savepoint p.savepoints x r.names may.unnamed)
+    (and_from (list_all (has_few xs) ss) (list_all (is_savepoint (space_of ss) (version_of p.versions) new.work) xs)
     (all_swap (has_few p.savepoints) (has_few xs) a (marked place implicit a) front back (few_still p.savepoints x room) (few_still p.savepoints x room a (all_middle (has_few p.savepoints) a front back few)) few)
     (all_push (is_savepoint (space_of ss) (version_of p.versions) new.work) p.savepoints x
     (all_if (is_savepoint (space_of p.spaces) (version_of p.versions) old.work) (is_savepoint (space_of ss) (version_of p.versions) new.work)
-    (λ y is. is_savepoint-kept p q old.work new.work (le_of old.work new.work may.work) (spaces_still p old new front a back place implicit x may) (KeepVersions-same p q refl) y is) p.savepoints r.each)
+    (λ y is. is_savepoint-kept p q old.work new.work (le-leb old.work new.work may.work) (spaces_still p old new front a back place implicit x may) (KeepVersions-same p q refl) y is) p.savepoints r.each)
     (new_savepoint p old new front a back place implicit x may spaces))))
 
 -- ---- all rules
@@ -171,9 +163,9 @@ keep-saved p old new front a back place implicit x may e =
     (savepoints_kept p old new front a back place implicit x may spaces (ap (λ (c : Counters). are_savepoints p c.work) (sym same) ∙ r.savepoints))
     (ap (are_rows p) may.stamps ∙ ap (λ (c : Counters). are_rows p c.next_stamp) (sym same) ∙ r.rows)
     (ap (are_pieces p) may.stamps ∙ ap (λ (c : Counters). are_pieces p c.next_stamp) (sym same) ∙ r.pieces)
-    (ap (are_hists q) may.stamps ∙ are_hists-kept p q old.next_stamp old.next_stamp (le_itself old.next_stamp) (KeepTables-same p q refl) still (KeepRows-same p q refl) refl (ap (λ (c : Counters). are_hists p c.next_stamp) (sym same) ∙ r.hists))
+    (ap (are_hists q) may.stamps ∙ are_hists-kept p q old.next_stamp old.next_stamp (nat_le-itself old.next_stamp) (KeepTables-same p q refl) still (KeepRows-same p q refl) refl (ap (λ (c : Counters). are_hists p c.next_stamp) (sym same) ∙ r.hists))
     (are_touches-kept p q (KeepTables-same p q refl) still refl r.touches)
-    (are_locks-kept p q old.work new.work (le_of old.work new.work may.work) (KeepTables-same p q refl) still refl (ap (λ (c : Counters). are_locks p c.work) (sym same) ∙ r.locks))
+    (are_locks-kept p q old.work new.work (le-leb old.work new.work may.work) (KeepTables-same p q refl) still refl (ap (λ (c : Counters). are_locks p c.work) (sym same) ∙ r.locks))
     (are_marks-kept p q (KeepTables-same p q refl) still refl r.marks)
     (are_turns-kept p q still refl (turned-swap p q front back a (marked place implicit a) refl refl may.spaces refl r.turns) r.turns)
 
@@ -197,7 +189,7 @@ saved_of p old new front a back place implicit x may e = record {
 }
   where
     away : (m : ℕ) → (m == x.space) ≡ false → a.number ≢ m
-    away m other same = bool_apart (sym (eq-eqb m x.space (sym same ∙ may.space)) ∙ other)
+    away m other same = true≢false (sym (eq-eqb m x.space (sym same ∙ may.space)) ∙ other)
 
 -- the records agree with the state with the savepoint
 pub FieldsStand-kept : (p : Parts) (old new : Counters) (front : List Space) (a : Space) (back : List Space) (place implicit : ℕ) (x : Savepoint) (w : Workspace) (k : Kept) (s t : Durable) → keep_rules p ≡ true → FieldsStand p s
@@ -217,7 +209,7 @@ Stands-kept p old new front a back place implicit x w k s t st may found kept sp
     -- no fewer places are given than before
     wide : Recorded p x.space w → w.next_place ≤ place
     wide r = subst (λ (b : ℕ). b ≤ place)
-        (ap (λ (z : Space). z.next_place) (one_space a r.space (sym (parent_found p old new front a back place implicit x may st.rules) ∙ r.found)) ∙ ap (λ (f : SpaceFields). f.next_place) r.fields)
+        (ap (λ (z : Space). z.next_place) (same_Some a r.space (sym (parent_found p old new front a back place implicit x may st.rules) ∙ r.found)) ∙ ap (λ (f : SpaceFields). f.next_place) r.fields)
         may.places
 
 -- ---- what a new savepoint is asked, of what is there
@@ -226,8 +218,8 @@ Stands-kept p old new front a back place implicit x w k s t st may found kept sp
 pub unnamed_if : (p : Parts) (x : Savepoint) → named_as p x.space x.name ≡ None → list_any (λ (y : Savepoint). same_savepoint y x) p.savepoints ≡ false
 unnamed_if p x none =
     any-if (λ (y : Savepoint). (y.space == x.space) && bytes_eq x.name y.name) (λ (y : Savepoint). same_savepoint y x)
-    (λ y same. let h = both (y.space == x.space) (bytes_eq y.name x.name) same in
-    and_true (y.space == x.space) (bytes_eq x.name y.name) h.0 ((bytes_eq-Decides x.name y.name).1 (sym ((bytes_eq-Decides y.name x.name).0 h.1))))
+    (λ y same. let h = and_parts (y.space == x.space) (bytes_eq y.name x.name) same in
+    and_from (y.space == x.space) (bytes_eq x.name y.name) h.0 ((bytes_eq-Decides x.name y.name).1 (sym ((bytes_eq-Decides y.name x.name).0 h.1))))
     p.savepoints (none-found (λ (y : Savepoint). (y.space == x.space) && bytes_eq x.name y.name) p.savepoints none)
 
 -- the newest version of a workspace is one of its own, and so is what a savepoint keeps
@@ -242,21 +234,18 @@ base_latest p n a rules found =
     let r = ruled p rules in
     let v = ruled_versions p r.counters.next_version r.versions in
     let h = found-passes (λ (s : Space). s.number == n) (has_versions (has_version p.versions) (version_of p.versions)) p.spaces a found v.spaces in
-    by_live (a.number == 0) (both (has_version p.versions a.number) _ h.1).1
+    by_live (a.number == 0) (and_parts (has_version p.versions a.number) _ h.1).1
   where
     by_live : (b : Bool) → (if b then (a.birth_version == 1) && (a.base_version == 0) else is_version_of (version_of p.versions) a.birth_version a.parent && is_version_of (version_of p.versions) a.base_version a.parent) ≡ true
         → (if b then a.base_version == 0 else is_version_of (version_of p.versions) a.base_version a.parent) ≡ true
-    by_live true e = (both (a.birth_version == 1) (a.base_version == 0) e).1
-    by_live false e = (both (is_version_of (version_of p.versions) a.birth_version a.parent) (is_version_of (version_of p.versions) a.base_version a.parent) e).1
+    by_live true e = (and_parts (a.birth_version == 1) (a.base_version == 0) e).1
+    by_live false e = (and_parts (is_version_of (version_of p.versions) a.birth_version a.parent) (is_version_of (version_of p.versions) a.base_version a.parent) e).1
 
 -- so it is of a savepoint that is there, which stands at a place that was given and has no more of the log than there is
 pub saved_in_space : (p : Parts) (n making : ℕ) (a : Space) (y : Savepoint) → keep_rules p ≡ true → space_of p.spaces n ≡ Some a → saved_as p n making ≡ Some y → is_saved_in (version_of p.versions) y a ≡ true
 saved_in_space p n making a y rules found recorded =
     let t = saved_there p rules n making y recorded in
-    ap (is_saved_in (version_of p.versions) y) (some_space a t.space (sym found ∙ t.found))
-    ∙ and_true (is_version_of (version_of p.versions) y.version t.space.number && is_base_of (version_of p.versions) y.base_version t.space) (nat_lt y.place t.space.next_place && nat_le y.log_length t.space.log_length)
-    (and_true (is_version_of (version_of p.versions) y.version t.space.number) (is_base_of (version_of p.versions) y.base_version t.space) (ap (is_version_of (version_of p.versions) y.version) t.number ∙ t.version) t.base)
-    (and_true (nat_lt y.place t.space.next_place) (nat_le y.log_length t.space.log_length) t.place t.log)
-  where
-    some_space : (b c : Space) → Some b ≡ Some c → b ≡ c
-    some_space b c h = cc
+    ap (is_saved_in (version_of p.versions) y) (same_Some a t.space (sym found ∙ t.found))
+    ∙ and_from (is_version_of (version_of p.versions) y.version t.space.number && is_base_of (version_of p.versions) y.base_version t.space) (nat_lt y.place t.space.next_place && nat_le y.log_length t.space.log_length)
+    (and_from (is_version_of (version_of p.versions) y.version t.space.number) (is_base_of (version_of p.versions) y.base_version t.space) (ap (is_version_of (version_of p.versions) y.version) t.number ∙ t.version) t.base)
+    (and_from (nat_lt y.place t.space.next_place) (nat_le y.log_length t.space.log_length) t.place t.log)

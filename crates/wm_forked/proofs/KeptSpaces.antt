@@ -1,28 +1,20 @@
 -- The rules on workspaces and on versions hold of each record still where all that they look up is there still: the laws is_space-kept,
 -- is_version-kept and has_versions-kept.
-use Rattle.std.proofs.Common.{◌≡◌, ℕ, ◌==◌, ◌^◌, nat_lt, nat_le, Bool, true, false, ◌&&◌, ◌||◌, if◌then◌else◌, List, [], ◌∷◌, ◌++◌, Option, Some, None, is_some, refl, sym, ap, ◌∙◌, arith}
+use Rattle.std.proofs.Common.{◌≡◌, ℕ, ◌==◌, ◌^◌, nat_lt, nat_le, Bool, true, false, ◌&&◌, ◌||◌, if◌then◌else◌, List, [], ◌∷◌, ◌++◌, Option, Some, None, is_some, refl, sym, ap, ◌∙◌}
+use Rattle.std.proofs.lemmas.Bool.{and_from, and_parts, true≢false}
 use Rattle.std.specs.Option.{option_map_or}
 use Rattle.std.specs.Str.{bytes_eq}
+use Rattle.wm_base.proofs.Plain.{either_if, else_if}
 use Rattle.wm_graph.specs.Parts.{Parts, space_of, version_of, has_version}
 use Rattle.wm_graph.specs.Rules.{is_placed, is_space, is_short, live, is_version_of, stands_under, is_version, has_versions}
 use Rattle.wm_spec.specs.declared.record.space.Space.{Space}
 use Rattle.wm_spec.specs.declared.record.version.Version.{Version}
-use Rattle.wm_state.proofs.Tests.{bool_apart, both, and_true}
-use Rattle.wm_state.proofs.Keeping.{KeepSpaces, KeepVersions, is_version_of-kept}
+use Rattle.wm_state.proofs.Keeping.{KeepSpaces, KeepVersions, is_version_of-kept, lt_le}
 
 -- ---- tests joined
 
-either_if : (a b c d : Bool) → (a ≡ true → c ≡ true) → (b ≡ true → d ≡ true) → (a || b) ≡ true → (c || d) ≡ true
-either_if true b c d f g e = rw (f refl) refl
-either_if false b true d f g e = refl
-either_if false b false d f g e = g e
-
-else_if : (a b c d : Bool) → (c ≡ true → d ≡ true) → (if a then b else c) ≡ true → (if a then b else d) ≡ true
-else_if true b c d f e = e
-else_if false b c d f e = f e
-
 both_if : (a b c d : Bool) → (a ≡ true → c ≡ true) → (b ≡ true → d ≡ true) → (a && b) ≡ true → (c && d) ≡ true
-both_if a b c d f g e = let h = both a b e in and_true c d (f h.0) (g h.1)
+both_if a b c d f g e = let h = and_parts a b e in and_from c d (f h.0) (g h.1)
 
 -- ---- workspaces
 
@@ -30,7 +22,7 @@ pub some-kept : (p q : Parts) → KeepSpaces p q → (n : ℕ) → is_some (spac
 some-kept p q spaces n e = by_found (space_of p.spaces n) refl e
   where
     by_found : (o : Option Space) → space_of p.spaces n ≡ o → is_some o ≡ true → is_some (space_of q.spaces n) ≡ true
-    by_found None is h = absurd (bool_apart (sym h))
+    by_found None is h = absurd (true≢false (sym h))
     by_found (Some s) is h = ap is_some (spaces n s is).is
 
 placed-kept : (p q : Parts) → KeepSpaces p q → (s : Space) → is_placed (space_of p.spaces) s ≡ true → is_placed (space_of q.spaces) s ≡ true
@@ -57,20 +49,17 @@ under-kept p q versions v s t parent e =
     (is_version_of-kept p q versions v.parent v.space) (is_version_of-kept p q versions v.parent s.parent)) e in
     ap (λ k. nat_lt v.parent v.number && (is_version_of (version_of q.versions) v.parent v.space || is_version_of (version_of q.versions) v.parent k)) parent ∙ wider
 
-lt_le : (m n k : ℕ) → nat_le n k ≡ true → nat_lt m n ≡ true → nat_lt m k ≡ true
-lt_le m n k le lt = grind (arith, le, lt)
-
 pub is_version-kept : (p q : Parts) (next more : ℕ) → nat_le next more ≡ true → KeepSpaces p q → KeepVersions p q → (v : Version) → is_version (space_of p.spaces) (version_of p.versions) next v ≡ true
     → is_version (space_of q.spaces) (version_of q.versions) more v ≡ true
 is_version-kept p q next more le spaces versions v e =
-    let h = both (nat_lt v.number next) _ e in
-    and_true (nat_lt v.number more) _ (lt_le v.number next more le h.0) (by_space (space_of p.spaces v.space) refl h.1)
+    let h = and_parts (nat_lt v.number next) _ e in
+    and_from (nat_lt v.number more) _ (lt_le v.number next more le h.0) (by_space (space_of p.spaces v.space) refl h.1)
   where
     stands : Parts → Space → Bool
     stands parts s = if v.parent == 0 then v.number == 1 else stands_under (version_of parts.versions) v s
 
     by_space : (o : Option Space) → space_of p.spaces v.space ≡ o → option_map_or (stands p) o false ≡ true → option_map_or (stands q) (space_of q.spaces v.space) false ≡ true
-    by_space None is h = absurd (bool_apart (sym h))
+    by_space None is h = absurd (true≢false (sym h))
     by_space (Some s) is h =
         let still = spaces v.space s is in
         ap (λ o. option_map_or (stands q) o false) still.is
@@ -88,11 +77,6 @@ has_versions-kept p q versions s has =
   where
     named : Parts → Bool
     named parts = is_version_of (version_of parts.versions) s.birth_version s.parent && is_version_of (version_of parts.versions) s.base_version s.parent
-
--- a workspace has a version still where there is one more, and the one more is one of its workspace
-pub has_push : (vs : List Version) (v : Version) (n : ℕ) → has_version vs n ≡ true → has_version (vs ++ v ∷ []) n ≡ true
-has_push [] v n e = absurd (bool_apart (sym e))
-has_push (w ∷ vs) v n e = either_if (w.space == n) (has_version vs n) (w.space == n) (has_version (vs ++ v ∷ []) n) (λ h. h) (has_push vs v n) e
 
 pub has_new : (vs : List Version) (v : Version) (n : ℕ) → (v.space == n) ≡ true → has_version (vs ++ v ∷ []) n ≡ true
 has_new [] v n e = rw e refl

@@ -1,6 +1,6 @@
 -- The records keep the rules and stand for the state after the batch by which a workspace is born.
 use Rattle.std.proofs.Common.{◌≡◌, ◌≢◌, ℕ, ◌+◌, ◌<◌, ◌==◌, Bool, true, false, cond, List, [], ◌∷◌, ◌++◌, Option, Some, None, refl, sym, ap, subst, ◌∙◌, arith}
-use Rattle.std.proofs.lemmas.Bool.{eq-eqb, ne_eqb}
+use Rattle.std.proofs.lemmas.Bool.{ne_eqb}
 use Rattle.wm_graph.specs.Parts.{Parts, parts_of}
 use Rattle.wm_graph.specs.Rules.{keep_rules}
 use Rattle.wm_spec.specs.Records.{record_at, change_at, ids_differ, AreChanges}
@@ -23,6 +23,7 @@ use Rattle.wm_state.proofs.ById.{one_order}
 use Rattle.wm_state.proofs.Batches.{over_it, Ascend-applied, record_at-applied}
 use Rattle.wm_state.proofs.ByKind.{under_found}
 use Rattle.wm_state.proofs.Planning.{recounted}
+use Rattle.wm_state.proofs.WorkedOn.{first_change}
 use Rattle.wm_forked.proofs.SavedStands.{IsKept}
 use Rattle.wm_forked.proofs.KeepSaved.{MaySave}
 use Rattle.wm_forked.proofs.PlannedSaved.{SavedParts, parts-saved, AllUnder-saved, changes-saved}
@@ -71,11 +72,6 @@ changes-birth counters_id new space_id space id x r v u apart counters_under spa
 
     last : (k : ℕ) → (k + 3 == k + 2) ≡ false
     last k = grind arith
-
--- a batch says of its first id what it puts there
-first_change : (id : ℕ) (r : Record) (cs : List Change) → change_at (put id r ∷ cs) id ≡ Some (Some r)
-unfolding change_at
-first_change id r cs = rw (eq-eqb id id refl) refl
 
 -- ---- the whole batch is its halves, one after the other
 

@@ -1,8 +1,11 @@
 -- A savepoint that is made where one stands in a workspace.
-use Rattle.std.proofs.Common.{◌≡◌, ℕ, ◌+◌, ◌<◌, ◌≤◌, ◌==◌, ◌&&◌, nat_lt, nat_le, Bool, true, false, List, [], ◌∷◌, ◌++◌, length, Option, Some, None, is_some, refl, sym, ap, subst, ◌∙◌, arith}
+use Rattle.std.proofs.Common.{◌≡◌, ℕ, ◌+◌, ◌≤◌, ◌==◌, ◌&&◌, nat_lt, nat_le, Bool, true, false, List, [], ◌∷◌, ◌++◌, length, Option, Some, None, is_some, refl, sym, ap, subst, ◌∙◌, arith, le_refl}
+use Rattle.std.proofs.lemmas.Bool.{and_parts, ltb-true}
+use Rattle.std.proofs.lemmas.Option.{same_Some}
 use Rattle.std.specs.List.{find, count_by}
 use Rattle.std.specs.Option.{option_map}
 use Rattle.std.specs.Str.{bytes_eq}
+use Rattle.wm_base.proofs.Plain.{nat_le-itself, nat_lt-next, none_some}
 use Rattle.wm_base.specs.declared.instant.TheConstants.{END}
 use Rattle.wm_graph.specs.Parts.{Parts, space_of, version_of}
 use Rattle.wm_graph.specs.Rules.{keep_rules, is_short, is_version_of, is_base_of}
@@ -18,7 +21,6 @@ use Rattle.wm_forked.proofs.KeepSaved.{MaySave, version_latest, base_latest, sav
 use Rattle.wm_state.proofs.SavedAs.{IsSaved, named_sorted, named_some, named_none, made_some, made_some_there, made_none, saved_count}
 use Rattle.wm_forked.proofs.SavedStands.{IsKept, kept_latest, kept_again}
 use Rattle.wm_state.proofs.Spaces.{IsSpace, next_making_there, makings_under, making_behind_room}
-use Rattle.wm_state.proofs.Tests.{both}
 
 -- ---- a point that is there
 
@@ -30,47 +32,32 @@ pub record IsPoint (p : Parts) (a : Space) (stand : Stand) (pt : Point) : Type 0
   pub log : nat_le pt.log_length a.log_length ≡ true
   pub places : a.next_place ≤ next_place_at a stand
 
-some_point : (a b : Point) → Some a ≡ Some b → a ≡ b
-some_point a b e = cc
-
-none_point : (o : Option Point) (a : Point) → o ≡ None → o ≡ Some a → ⊥
-none_point o a e f = cc
-
 newest_is : (p : Parts) (a : Space) (m : ℕ) → keep_rules p ≡ true → space_of p.spaces a.number ≡ Some a → IsPoint p a Latest (newest_point p a m)
 newest_is p a m rules there = record {
   version = version_latest p a.number a rules there;
   base = base_latest p a.number a rules there;
-  placed = below a.next_place;
-  log = itself a.log_length;
+  placed = nat_lt-next a.next_place;
+  log = nat_le-itself a.log_length;
   places = more a.next_place;
 }
   where
-    below : (n : ℕ) → nat_lt n (n + 1) ≡ true
-    below n = grind arith
-
-    itself : (n : ℕ) → nat_le n n ≡ true
-    itself n = grind arith
-
     more : (n : ℕ) → n ≤ n + 1
     more n = omega arith
 
 saved_is : (p : Parts) (a : Space) (making : ℕ) (y : Record) → keep_rules p ≡ true → space_of p.spaces a.number ≡ Some a → saved_as p a.number making ≡ Some y → IsPoint p a (At making) (saved_point y)
 saved_is p a making y rules there found =
-    let h = both (is_version_of (version_of p.versions) y.version a.number && is_base_of (version_of p.versions) y.base_version a) (nat_lt y.place a.next_place && nat_le y.log_length a.log_length) (saved_in_space p a.number making a y rules there found) in
-    let g = both (is_version_of (version_of p.versions) y.version a.number) (is_base_of (version_of p.versions) y.base_version a) h.0 in
-    let k = both (nat_lt y.place a.next_place) (nat_le y.log_length a.log_length) h.1 in
-    record { version = g.0; base = g.1; placed = k.0; log = k.1; places = itself a.next_place }
-  where
-    itself : (n : ℕ) → n ≤ n
-    itself n = omega arith
+    let h = and_parts (is_version_of (version_of p.versions) y.version a.number && is_base_of (version_of p.versions) y.base_version a) (nat_lt y.place a.next_place && nat_le y.log_length a.log_length) (saved_in_space p a.number making a y rules there found) in
+    let g = and_parts (is_version_of (version_of p.versions) y.version a.number) (is_base_of (version_of p.versions) y.base_version a) h.0 in
+    let k = and_parts (nat_lt y.place a.next_place) (nat_le y.log_length a.log_length) h.1 in
+    record { version = g.0; base = g.1; placed = k.0; log = k.1; places = le_refl a.next_place }
 
 pub is_point : (p : Parts) (a : Space) (m : ℕ) (stand : Stand) (pt : Point) → keep_rules p ≡ true → space_of p.spaces a.number ≡ Some a → point_at p a m stand ≡ Some pt → IsPoint p a stand pt
-is_point p a m Latest pt rules there is = subst (λ q. IsPoint p a Latest q) (some_point (newest_point p a m) pt is) (newest_is p a m rules there)
+is_point p a m Latest pt rules there is = subst (λ q. IsPoint p a Latest q) (same_Some (newest_point p a m) pt is) (newest_is p a m rules there)
 is_point p a m (At making) pt rules there is = by_record (saved_as p a.number making) refl
   where
     by_record : (o : Option Record) → saved_as p a.number making ≡ o → IsPoint p a (At making) pt
-    by_record None none = absurd (none_point (option_map saved_point (saved_as p a.number making)) pt (ap (option_map saved_point) none) is)
-    by_record (Some y) found = subst (λ q. IsPoint p a (At making) q) (some_point (saved_point y) pt (sym (ap (option_map saved_point) found) ∙ is)) (saved_is p a making y rules there found)
+    by_record None none = absurd (none_some (option_map saved_point (saved_as p a.number making)) pt (ap (option_map saved_point) none) is)
+    by_record (Some y) found = subst (λ q. IsPoint p a (At making) q) (same_Some (saved_point y) pt (sym (ap (option_map saved_point) found) ∙ is)) (saved_is p a making y rules there found)
 
 -- ---- the records may have the savepoint
 
@@ -114,11 +101,8 @@ may_save p a c m work stand pt name flag implicit makes implicits front back spa
     more : (w : ℕ) → w ≤ w + work
     more w = omega arith
 
-    below : (a b : ℕ) → nat_lt a b ≡ true → a < b
-    below a b e = grind (arith, e)
-
     in_work : (k w : ℕ) → k ≤ w + 3 → k ≤ w + work + 2
-    in_work k w le = omega (arith, le, below 0 work makes.some)
+    in_work k w le = omega (arith, le, ltb-true 0 work makes.some)
 
     few : (n : ℕ) → nat_le 4096 n ≡ false → nat_lt n 4096 ≡ true
     few n e = grind (arith, e)
@@ -190,7 +174,7 @@ pub record MadeAs (p : Parts) (s : Durable) (a : Space) (w : Workspace) (m : ℕ
 
 pub made_as : (p : Parts) (s : Durable) (a : Space) (w : Workspace) (m : ℕ) (stand : Stand) (pt : Point) (name : List ℕ) (flag : Bool) → keep_rules p ≡ true → FieldsStand p s → IsSpace p s a.number a w → point_at p a m stand ≡ Some pt
     → MadeAs p s a w m stand pt name flag
-made_as p s a w m Latest pt name flag rules st is there = subst (λ q. MadeAs p s a w m Latest q name flag) (some_point (newest_point p a m) pt there) (record {
+made_as p s a w m Latest pt name flag rules st is there = subst (λ q. MadeAs p s a w m Latest q name flag) (same_Some (newest_point p a m) pt there) (record {
   savepoint = record {
     making = next_making s.spaces;
     name = name;
@@ -223,9 +207,9 @@ made_as p s a w m (At making) pt name flag rules st is there = by_record (saved_
     }
 
     by_record : (o : Option Record) → saved_as p a.number making ≡ o → MadeAs p s a w m (At making) pt name flag
-    by_record None none = absurd (none_point (option_map saved_point (saved_as p a.number making)) pt (ap (option_map saved_point) none) there)
+    by_record None none = absurd (none_some (option_map saved_point (saved_as p a.number making)) pt (ap (option_map saved_point) none) there)
     by_record (Some y) found =
-        subst (λ q. MadeAs p s a w m (At making) q name flag) (some_point (saved_point y) pt (sym (ap (option_map saved_point) found) ∙ there))
+        subst (λ q. MadeAs p s a w m (At making) q name flag) (same_Some (saved_point y) pt (sym (ap (option_map saved_point) found) ∙ there))
         (by_savepoint y (made_some_there p s a.number w rules st.savepoints is.found making y found))
 
 -- what is newest is kept so
@@ -276,19 +260,19 @@ made_again p s a w m making y name flag st is found = by_savepoint (made_some p 
     }
 
 pub made_there : (p : Parts) (s : Durable) (a : Space) (w : Workspace) (m : ℕ) (stand : Stand) (pt : Point) (name : List ℕ) (flag : Bool) → Stands p s → IsSpace p s a.number a w → point_at p a m stand ≡ Some pt → MadeAt p s a w m stand pt name flag
-made_there p s a w m Latest pt name flag st is there = subst (λ q. MadeAt p s a w m Latest q name flag) (some_point (newest_point p a m) pt there) (made_newest p s a w m name flag st is)
+made_there p s a w m Latest pt name flag st is there = subst (λ q. MadeAt p s a w m Latest q name flag) (same_Some (newest_point p a m) pt there) (made_newest p s a w m name flag st is)
 made_there p s a w m (At making) pt name flag st is there = by_record (saved_as p a.number making) refl
   where
     by_record : (o : Option Record) → saved_as p a.number making ≡ o → MadeAt p s a w m (At making) pt name flag
-    by_record None none = absurd (none_point (option_map saved_point (saved_as p a.number making)) pt (ap (option_map saved_point) none) there)
+    by_record None none = absurd (none_some (option_map saved_point (saved_as p a.number making)) pt (ap (option_map saved_point) none) there)
     by_record (Some y) found =
-        subst (λ q. MadeAt p s a w m (At making) q name flag) (some_point (saved_point y) pt (sym (ap (option_map saved_point) found) ∙ there)) (made_again p s a w m making y name flag st is found)
+        subst (λ q. MadeAt p s a w m (At making) q name flag) (same_Some (saved_point y) pt (sym (ap (option_map saved_point) found) ∙ there)) (made_again p s a w m making y name flag st is found)
 
 -- no savepoint is made where none is there
 pub made_nowhere : (p : Parts) (s : Durable) (a : Space) (w : Workspace) (m : ℕ) (stand : Stand) (name : List ℕ) (flag : Bool) → Stands p s → IsSpace p s a.number a w → point_at p a m stand ≡ None → saved_at m s.spaces w stand name flag ≡ None
-made_nowhere p s a w m Latest name flag st is none = absurd (none_point (Some (newest_point p a m)) (newest_point p a m) none refl)
+made_nowhere p s a w m Latest name flag st is none = absurd (none_some (Some (newest_point p a m)) (newest_point p a m) none refl)
 made_nowhere p s a w m (At making) name flag st is none = by_record (saved_as p a.number making) refl
   where
     by_record : (o : Option Record) → saved_as p a.number making ≡ o → saved_at m s.spaces w (At making) name flag ≡ None
     by_record None gone = ap (option_map (λ (k : Savepoint). record k { making = next_making s.spaces; name = name; implicit = flag })) (made_none p s a.number w st is.found making gone)
-    by_record (Some y) found = absurd (none_point (option_map saved_point (saved_as p a.number making)) (saved_point y) none (ap (option_map saved_point) found))
+    by_record (Some y) found = absurd (none_some (option_map saved_point (saved_as p a.number making)) (saved_point y) none (ap (option_map saved_point) found))

@@ -1,5 +1,6 @@
 -- The records with a savepoint more stand for the state with it: nothing new is named, and nothing new is own.
 use Rattle.std.proofs.Common.{◌≡◌, ℕ, ◌<◌, ◌≤◌, ◌==◌, ◌&&◌, true, false, List, ◌++◌, length, take, Some, is_some, refl, sym, ap, subst, ◌∙◌, inl, ⊎_elim, take_all, le_refl}
+use Rattle.std.proofs.lemmas.Option.{same_Some}
 use Rattle.std.specs.List.{All}
 use Rattle.wm_graph.specs.Parts.{Parts, space_of}
 use Rattle.wm_graph.specs.Rules.{keep_rules}
@@ -34,12 +35,6 @@ pub record IsKept (p : Parts) (d : Durable) (w : Workspace) (k : Savepoint) (x :
   pub real : All (IsReal d.tables) k.own
   pub fields : saved_fields x ≡ fields_saved k
 
-some_record : (a b : Record) → Some a ≡ Some b → a ≡ b
-some_record a b h = cc
-
-some_one : (a b : Workspace) → Some a ≡ Some b → a ≡ b
-some_one a b h = cc
-
 -- ---- the clauses
 
 module _ (p q : Parts) (s t : Durable) (n place implicit : ℕ) (w : Workspace) (k : Savepoint) (x : Record) (v : Saved p q n place implicit x) (spaces : t.spaces ≡ with_space n (with_savepoint place implicit k) s.spaces)
@@ -55,10 +50,10 @@ module _ (p q : Parts) (s t : Durable) (n place implicit : ℕ) (w : Workspace) 
 
   -- the record and the workspace of the new savepoint
   new_record : (m making : ℕ) (y : Record) → saved_as q m making ≡ Some y → m ≡ n → x.making ≡ making → y ≡ x
-  new_record m making y saved here made = some_record y x (sym saved ∙ ap (λ i. saved_as q i making) here ∙ saved_as-here p q n place implicit x v making made)
+  new_record m making y saved here made = same_Some y x (sym saved ∙ ap (λ i. saved_as q i making) here ∙ saved_as-here p q n place implicit x v making made)
 
   new_home : (m : ℕ) (old : Workspace) → workspace_of s.spaces m ≡ Some old → m ≡ n → old ≡ w
-  new_home m old is here = some_one old w (sym is ∙ ap (workspace_of s.spaces) here ∙ found)
+  new_home m old is here = same_Some old w (sym is ∙ ap (workspace_of s.spaces) here ∙ found)
 
   -- another is recorded as it was
   old_record : (m making : ℕ) (y : Record) → saved_as q m making ≡ Some y → ((x.space == m) && (x.making == making)) ≡ false → saved_as p m making ≡ Some y

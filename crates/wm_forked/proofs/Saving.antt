@@ -1,10 +1,12 @@
 -- A workspace gets a savepoint more: what is looked up then, and the fields of the records. SavedStands has the clauses on what is held.
-use Rattle.std.proofs.Common.{◌≡◌, ◌≢◌, ℕ, ◌==◌, nat_lt, Bool, true, false, ◌&&◌, cond, List, [], ◌∷◌, ◌++◌, map, Option, Some, None, refl, sym, ap, ◌∙◌, ◌⊎◌, inl, inr, append-nil, arith}
-use Rattle.std.proofs.lemmas.Bool.{cases_eq, eq-eqb, ne_eqb}
+use Rattle.std.proofs.Common.{◌≡◌, ◌≢◌, ℕ, ◌==◌, nat_lt, Bool, false, ◌&&◌, cond, List, [], ◌∷◌, ◌++◌, map, Option, Some, None, refl, sym, ap, ◌∙◌, ◌⊎◌, inl, inr, append-nil}
+use Rattle.std.proofs.lemmas.Bool.{cases_eq, eq-eqb, ne_eqb, and_right}
 use Rattle.std.proofs.lemmas.List.{map-append}
 use Rattle.std.proofs.lemmas.List.Elements.{filter-append}
+use Rattle.std.proofs.lemmas.Option.{same_Some}
 use Rattle.std.specs.List.{list_any, filter, find}
 use Rattle.std.specs.Option.{option_map}
+use Rattle.wm_base.proofs.Plain.{nat_lt-apart, none_some}
 use Rattle.wm_graph.specs.Parts.{Parts, space_of}
 use Rattle.wm_spec.specs.declared.record.savepoint.Savepoint.{Savepoint as Record}
 use Rattle.wm_spec.specs.declared.record.space.Space.{Space}
@@ -26,12 +28,6 @@ pub record WasChanged (n : ℕ) (act : Workspace → Workspace) (ws : List Works
   pub is : workspace_of ws m ≡ Some old
   pub how : ((m ≡ n) × (new ≡ act old)) ⊎ ((m ≢ n) × (new ≡ old))
 
-some_workspace : (x y : Workspace) → Some x ≡ Some y → x ≡ y
-some_workspace x y h = cc
-
-none_workspace : (o : Option Workspace) (x : Workspace) → o ≡ None → o ≡ Some x → ⊥
-none_workspace o x none some = cc
-
 pub was_changed : (n : ℕ) (act : Workspace → Workspace) → ((w : Workspace) → (act w).number ≡ w.number) → (ws : List Workspace) (m : ℕ) (new : Workspace)
     → workspace_of (with_space n act ws) m ≡ Some new → WasChanged n act ws m new
 was_changed n act same ws m new is = by_number (cases_eq m n) (workspace_of ws m) refl
@@ -43,10 +39,10 @@ was_changed n act same ws m new is = by_number (cases_eq m n) (workspace_of ws m
     away_is away = workspace_of-changed n act same ws m ∙ ap (λ b. cond b (option_map act (workspace_of ws m)) (workspace_of ws m)) (ne_eqb _ _ away)
 
     by_number : (m ≡ n) ⊎ (m ≢ n) → (o : Option Workspace) → workspace_of ws m ≡ o → WasChanged n act ws m new
-    by_number (inl here) None found = absurd (none_workspace (workspace_of (with_space n act ws) m) new (here_is here ∙ ap (option_map act) found) is)
-    by_number (inl here) (Some w) found = record { old = w; is = found; how = inl (here, some_workspace new (act w) (sym is ∙ here_is here ∙ ap (option_map act) found)) }
-    by_number (inr away) None found = absurd (none_workspace (workspace_of (with_space n act ws) m) new (away_is away ∙ found) is)
-    by_number (inr away) (Some w) found = record { old = w; is = found; how = inr (away, some_workspace new w (sym is ∙ away_is away ∙ found)) }
+    by_number (inl here) None found = absurd (none_some (workspace_of (with_space n act ws) m) new (here_is here ∙ ap (option_map act) found) is)
+    by_number (inl here) (Some w) found = record { old = w; is = found; how = inl (here, same_Some new (act w) (sym is ∙ here_is here ∙ ap (option_map act) found)) }
+    by_number (inr away) None found = absurd (none_some (workspace_of (with_space n act ws) m) new (away_is away ∙ found) is)
+    by_number (inr away) (Some w) found = record { old = w; is = found; how = inr (away, same_Some new w (sym is ∙ away_is away ∙ found)) }
 
 -- a workspace of after a savepoint, by what it was before
 pub record WasSaved (n place implicit : ℕ) (k : Savepoint) (ws : List Workspace) (m : ℕ) (new : Workspace) : Type 0 where
@@ -80,12 +76,6 @@ was_saved n place implicit k ws m new is = by_case (was_changed n (with_savepoin
 pub had_mark : (p q : Parts) (n place implicit : ℕ) (x : Record) → Saved p q n place implicit x → (m : ℕ) (new : Space) → space_of q.spaces m ≡ Some new → StillNames p m new
 had_mark p q n place implicit x v m new is = by_number (cases_eq m n) (space_of p.spaces m) refl
   where
-    some_same : (a b : Space) → Some a ≡ Some b → a ≡ b
-    some_same a b h = cc
-
-    none_some : (o : Option Space) → o ≡ None → o ≡ Some new → ⊥
-    none_some o none some = cc
-
     marked_from : (r : Space) → new ≡ marked place implicit r → space_of p.spaces m ≡ Some r → StillNames p m new
     marked_from r h found = record { old = r; is = found; birth = ap (λ (s : Space). s.birth_version) h; base = ap (λ (s : Space). s.base_version) h }
 
@@ -93,11 +83,11 @@ had_mark p q n place implicit x v m new is = by_number (cases_eq m n) (space_of 
     here_is here = ap (space_of q.spaces) here ∙ v.here ∙ ap (λ k. option_map (marked place implicit) (space_of p.spaces k)) (sym here)
 
     by_number : (m ≡ n) ⊎ (m ≢ n) → (o : Option Space) → space_of p.spaces m ≡ o → StillNames p m new
-    by_number (inl here) None found = absurd (none_some (space_of q.spaces m) (here_is here ∙ ap (option_map (marked place implicit)) found) is)
-    by_number (inl here) (Some r) found = marked_from r (some_same new (marked place implicit r) (sym is ∙ here_is here ∙ ap (option_map (marked place implicit)) found)) found
-    by_number (inr away) None found = absurd (none_some (space_of q.spaces m) (v.elsewhere m (ne_eqb _ _ away) ∙ found) is)
+    by_number (inl here) None found = absurd (none_some (space_of q.spaces m) new (here_is here ∙ ap (option_map (marked place implicit)) found) is)
+    by_number (inl here) (Some r) found = marked_from r (same_Some new (marked place implicit r) (sym is ∙ here_is here ∙ ap (option_map (marked place implicit)) found)) found
+    by_number (inr away) None found = absurd (none_some (space_of q.spaces m) new (v.elsewhere m (ne_eqb _ _ away) ∙ found) is)
     by_number (inr away) (Some r) found =
-        let same : new ≡ r = some_same new r (sym is ∙ v.elsewhere m (ne_eqb _ _ away) ∙ found) in
+        let same : new ≡ r = same_Some new r (sym is ∙ v.elsewhere m (ne_eqb _ _ away) ∙ found) in
         record { old = r; is = found; birth = ap (λ (s : Space). s.birth_version) same; base = ap (λ (s : Space). s.base_version) same }
 
 -- ---- the records of savepoints
@@ -120,19 +110,12 @@ saved_in-away p q n place implicit x v m away =
 pub saved_as-away : (p q : Parts) (n place implicit : ℕ) (x : Record) → Saved p q n place implicit x → (m making : ℕ) → ((x.space == m) && (x.making == making)) ≡ false → saved_as q m making ≡ saved_as p m making
 saved_as-away p q n place implicit x v m making away = ap (λ xs. find (λ (y : Record). (y.space == m) && (y.making == making)) xs) v.savepoints ∙ find-skip (λ (y : Record). (y.space == m) && (y.making == making)) p.savepoints x away
 
-and_other : (a b : Bool) → b ≡ false → (a && b) ≡ false
-and_other true b e = e
-and_other false b e = refl
-
-lt_apart : (m n : ℕ) → nat_lt m n ≡ true → (m == n) ≡ false
-lt_apart m n lt = grind (arith, lt)
-
 pub saved_as-here : (p q : Parts) (n place implicit : ℕ) (x : Record) → Saved p q n place implicit x → (making : ℕ) → x.making ≡ making → saved_as q n making ≡ Some x
 saved_as-here p q n place implicit x v making here =
     ap (λ xs. find (λ (y : Record). (y.space == n) && (y.making == making)) xs) v.savepoints
     ∙ find_new (λ (y : Record). (y.space == n) && (y.making == making)) p.savepoints x
     (none_if (λ (y : Record). nat_lt y.making x.making) (λ (y : Record). (y.space == n) && (y.making == making))
-    (λ y lt. and_other (y.space == n) (y.making == making) (ap (λ k. y.making == k) (sym here) ∙ lt_apart y.making x.making lt)) p.savepoints v.after)
+    (λ y lt. and_right (y.space == n) (y.making == making) (ap (λ k. y.making == k) (sym here) ∙ nat_lt-apart y.making x.making lt)) p.savepoints v.after)
     (rw (eq-eqb _ _ v.space, eq-eqb _ _ here) refl)
 
 -- ---- the clauses
@@ -219,7 +202,7 @@ pub record MadeCase (n place implicit : ℕ) (k : Savepoint) (x : Record) (ws : 
 made_below : (p q : Parts) (s : Durable) (n place implicit : ℕ) (x : Record) → Saved p q n place implicit x → SavepointsStand p s → (old : Workspace) → workspace_of s.spaces n ≡ Some old
     → (making : ℕ) → x.making ≡ making → list_any (λ (i : Savepoint). i.making == making) old.savepoints ≡ false
 made_below p q s n place implicit x v stand old found making here =
-    none_if (λ (i : Savepoint). nat_lt i.making x.making) (λ (i : Savepoint). i.making == making) (λ i lt. ap (λ l. i.making == l) (sym here) ∙ lt_apart i.making x.making lt) old.savepoints
+    none_if (λ (i : Savepoint). nat_lt i.making x.making) (λ (i : Savepoint). i.making == making) (λ i lt. ap (λ l. i.making == l) (sym here) ∙ nat_lt-apart i.making x.making lt) old.savepoints
     (sym (all-alike saved_fields fields_saved (λ f. nat_lt f.making x.making) (saved_in p n) old.savepoints (stand.same n ∙ ap (map fields_saved) (savepoints_of-found s.spaces n old found)))
     ∙ all-making (λ (y : Record). nat_lt y.making x.making) (filter (λ (y : Record). y.space == n) p.savepoints)
     (all_filter (λ (y : Record). nat_lt y.making x.making) (λ (y : Record). y.space == n) p.savepoints v.after))
@@ -235,9 +218,6 @@ pub made_case : (p q : Parts) (s : Durable) (n place implicit : ℕ) (k : Savepo
     → MadeCase n place implicit k x s.spaces m making new j
 made_case p q s n place implicit k x v fields stand m making new j is made = by_case (was_saved n place implicit k s.spaces m new is)
   where
-    some_same : (a b : Savepoint) → Some a ≡ Some b → a ≡ b
-    some_same a b h = cc
-
     by_case : WasSaved n place implicit k s.spaces m new → MadeCase n place implicit k x s.spaces m making new j
     by_case y = record { was = y; how = by_both y.how (cases_eq x.making making) }
       where
@@ -246,11 +226,11 @@ made_case p q s n place implicit k x v fields stand m making new j is made = by_
         by_both (inl h) (inl here) = inl (
           h.0,
           here,
-          some_same j k (sym made ∙ ap (λ (o : Workspace). savepoint_made making o.savepoints) h.1 ∙ made_new p q s n place implicit k x v fields stand y.old (ap (workspace_of s.spaces) (sym h.0) ∙ y.is) making here),
+          same_Some j k (sym made ∙ ap (λ (o : Workspace). savepoint_made making o.savepoints) h.1 ∙ made_new p q s n place implicit k x v fields stand y.old (ap (workspace_of s.spaces) (sym h.0) ∙ y.is) making here),
         )
         by_both (inl h) (inr away) = inr (
           sym (ap (λ (o : Workspace). savepoint_made making o.savepoints) h.1 ∙ find-skip (λ (i : Savepoint). i.making == making) y.old.savepoints k (ne_eqb _ _ (λ e. away (ap (λ f. f.making) fields ∙ e)))) ∙ made,
-          and_other (x.space == m) (x.making == making) (ne_eqb _ _ away),
+          and_right (x.space == m) (x.making == making) (ne_eqb _ _ away),
         )
         by_both (inr h) _ = inr (sym (ap (λ (o : Workspace). savepoint_made making o.savepoints) h.1) ∙ made, ap (λ b. b && (x.making == making)) (ne_eqb _ _ (λ e. h.0 (sym e ∙ v.space))))
 

@@ -1,18 +1,17 @@
 -- A version more, above all others and with nothing in it: what is seen then.
-use Rattle.std.proofs.Common.{◌≡◌, ◌≢◌, ℕ, ◌<◌, nat_lt, true, false, List, [], ◌∷◌, ◌++◌, None, is_some, refl, sym, ap, ◌∙◌, arith}
-use Rattle.std.proofs.lemmas.Bool.{eq-eqb, ne_eqb}
-use Rattle.std.specs.List.{list_all}
+use Rattle.std.proofs.Common.{◌≡◌, ◌≢◌, ℕ, ◌<◌, true, List, [], ◌∷◌, None, is_some, refl, sym, ap, ◌∙◌, arith}
+use Rattle.std.proofs.lemmas.Bool.{eq-eqb, ne_eqb, and_parts}
+use Rattle.wm_base.proofs.Plain.{nat_lt-turned}
 use Rattle.wm_graph.specs.Parts.{Parts}
 use Rattle.wm_graph.specs.Rules.{keep_rules}
 use Rattle.wm_spec.specs.Lists.{Entry, Cell}
-use Rattle.wm_spec.specs.declared.record.version.Version.{Version}
-use Rattle.wm_tree.specs.Versions.{grow, AllBelow}
+use Rattle.wm_tree.specs.Versions.{AllBelow}
 use Rattle.wm_tree.specs.declared.version.Version.{Version as Node}
-use Rattle.wm_state.specs.Standing.{node_of, stored_at, seen_at, own_at, newest_first, latest, seen, seen_above, is_above, have_ends, Covers}
+use Rattle.wm_state.specs.Standing.{stored_at, seen_at, own_at, newest_first, latest, seen, seen_above, is_above, have_ends, Covers}
 use Rattle.wm_state.proofs.Above.{ends-beside, ends-under, ends-itself, pieces_lower}
 use Rattle.wm_state.proofs.Ending.{all_end}
-use Rattle.wm_state.proofs.Tests.{both}
-use Rattle.wm_state.proofs.Forking.{latest-below, own-none, seen-beside, own-beside, seen-under, own-under}
+use Rattle.wm_state.proofs.Forking.{own-none, seen-beside, own-beside, seen-under, own-under}
+use Rattle.wm_state.proofs.Growing.{newest-push}
 
 pub record Sprouted (p q : Parts) (x : Node) : Type 0 where
   pub some : 0 < x.number
@@ -20,18 +19,6 @@ pub record Sprouted (p q : Parts) (x : Node) : Type 0 where
   pub versions : newest_first q.versions ≡ x ∷ newest_first p.versions
   pub empty : (c : Cell) → stored_at p.pieces x.number c ≡ None
   pub pieces : q.pieces ≡ p.pieces
-
--- ---- among the versions
-
--- a version above all others, recorded behind them, is the newest
-pub newest-behind : (v : Version) (vs : List Version) → list_all (λ (w : Version). nat_lt w.number v.number) vs ≡ true → newest_first (vs ++ v ∷ []) ≡ node_of v ∷ newest_first vs
-newest-behind v [] e = refl
-newest-behind v (w ∷ vs) e =
-    let h = both (nat_lt w.number v.number) (list_all (λ (w : Version). nat_lt w.number v.number) vs) e in
-    ap (grow (node_of w)) (newest-behind v vs h.1) ∙ rw (not_less w.number v.number h.0) refl
-  where
-    not_less : (a b : ℕ) → nat_lt a b ≡ true → nat_lt b a ≡ false
-    not_less a b lt = grind (arith, lt)
 
 -- ---- what is seen
 
@@ -94,6 +81,3 @@ newest-here p q x s = rw (s.versions, eq-eqb x.space x.space refl) refl
 -- every other workspace has the one that it had
 pub newest-away : (p q : Parts) (x : Node) → Sprouted p q x → (m : ℕ) → m ≢ x.space → latest q m ≡ latest p m
 newest-away p q x s m other = rw (s.versions, ne_eqb x.space m (λ same. other (sym same))) refl
-
-pub newest-lower : (p q : Parts) (x : Node) → Sprouted p q x → (m : ℕ) → latest p m < x.number
-newest-lower p q x s m = latest-below x.number (newest_first p.versions) m s.some s.below

@@ -1,6 +1,8 @@
 -- What is asked behind an edit that leaves what is asked about: some state agrees with the records before, so the state that the edit makes
 -- of it agrees with those after, which tells what is looked up in them; and rows stay.
 use Rattle.std.proofs.Common.{◌≡◌, ℕ, ◌+◌, ◌≤◌, ◌==◌, nat_lt, true, false, List, [], ◌∷◌, length, Option, Some, None, is_some, refl, sym, ap, ◌∙◌, arith}
+use Rattle.std.proofs.lemmas.Bool.{and_from, true≢false}
+use Rattle.std.proofs.lemmas.Option.{same_Some, none-some}
 use Rattle.std.specs.List.{list_all, list_any, slice_index_or}
 use Rattle.std.specs.Option.{option_map, option_map_or}
 use Rattle.wm_graph.specs.Parts.{Parts, parts_of, space_of, table_of}
@@ -24,7 +26,7 @@ use Rattle.wm_state.proofs.FieldsThere.{fields_there}
 use Rattle.wm_state.proofs.Mapped.{all-found}
 use Rattle.wm_state.proofs.Ready.{KeepReady, all_real-kept, tables_found}
 use Rattle.wm_state.proofs.Spaces.{RecordIs, SpaceIs, record_there, ruled_spaces, space_there}
-use Rattle.wm_state.proofs.Tests.{all_if, and_true, bool_apart}
+use Rattle.wm_state.proofs.Tests.{all_if}
 use Rattle.wm_gained.specs.Behind.{LeavesLog, LeavesParents, LeavesSpace, LeftLog}
 use Rattle.wm_gained.proofs.RowsBehind.{rows_found_next}
 
@@ -74,19 +76,13 @@ module _ (rs : List Stored) (m work : ℕ) (edit : Edit) (cs : List Change) (rul
     other_parent : (n k : ℕ) (r : Space) → list_all (λ (x : Space). is_other n x.parent) p.spaces ≡ true → space_of q.spaces k ≡ Some r → is_other n r.parent ≡ true
     other_parent n k r childless found = by_old (space_of p.spaces k) refl
       where
-        some_none : (i : ℕ) → Some i ≡ None → ⊥
-        some_none i e = cc
-
-        some_same : (i j : ℕ) → Some i ≡ Some j → i ≡ j
-        some_same i j e = cc
-
         of_old : Some r.parent ≡ option_map (λ (x : Space). x.parent) (space_of p.spaces k)
         of_old = sym (ap (option_map (λ (x : Space). x.parent)) found) ∙ parents k
 
         by_old : (o : Option Space) → space_of p.spaces k ≡ o → is_other n r.parent ≡ true
-        by_old None none = absurd (some_none r.parent (of_old ∙ ap (option_map (λ (x : Space). x.parent)) none))
+        by_old None none = absurd (none-some r.parent (sym (of_old ∙ ap (option_map (λ (x : Space). x.parent)) none)))
         by_old (Some a) is =
-            ap (is_other n) (some_same r.parent a.parent (of_old ∙ ap (option_map (λ (x : Space). x.parent)) is))
+            ap (is_other n) (same_Some r.parent a.parent (of_old ∙ ap (option_map (λ (x : Space). x.parent)) is))
             ∙ (found-passes (λ (x : Space). x.number == k) (λ (x : Space). is_other n x.parent) p.spaces a is childless).1
 
     pub can_remove_next : (n : ℕ) → CanRemove p n → CanRemove q n
@@ -104,8 +100,8 @@ module _ (rs : List Stored) (m work : ℕ) (edit : Edit) (cs : List Change) (rul
     space = r.recorded;
     there = r.is.recorded;
     rebases = ap (λ k. nat_lt number_limit (k + 1)) count ∙ can.rebases;
-    unturned = ap (λ k. list_any (is_turn n (k + 1)) q.turns) count ∙ ap (list_any (is_turn n (can.space.rebases + 1))) (drafts.turned (and_true (leaves_turns edit) true stay refl)) ∙ can.unturned;
-    kept = λ stays c some. absurd (bool_apart stays);
+    unturned = ap (λ k. list_any (is_turn n (k + 1)) q.turns) count ∙ ap (list_any (is_turn n (can.space.rebases + 1))) (drafts.turned (and_from (leaves_turns edit) true stay refl)) ∙ can.unturned;
+    kept = λ stays c some. absurd (true≢false stays);
   }
     where
       w : SpaceIs p was n can.space

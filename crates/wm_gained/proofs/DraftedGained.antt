@@ -1,5 +1,7 @@
 -- What the batch of a log that gains entries makes of the records.
 use Rattle.std.proofs.Common.{◌≡◌, ℕ, ◌+◌, nat_lt, true, List, [], ◌∷◌, ◌++◌, map, length, Some, refl, sym, ap, subst, ◌∙◌}
+use Rattle.std.proofs.lemmas.Option.{same_Some}
+use Rattle.std.proofs.lemmas.Bool.{true≢false}
 use Rattle.std.specs.declared.alloc.Global.{Global}
 use Rattle.std.specs.declared.vec.Vec.{Vec}
 use Rattle.wm_graph.specs.Parts.{Parts, parts_of, space_of}
@@ -25,10 +27,8 @@ use Rattle.wm_state.specs.declared.edit.NewEntry.{NewEntry}
 use Rattle.wm_state.proofs.Counting.{CountsAs, counts_as, counts_in, in_room, moved_well, work_grows}
 use Rattle.wm_state.proofs.Drafted.{some_edit}
 use Rattle.wm_state.proofs.Growing.{same_counters}
-use Rattle.wm_state.proofs.Named.{one_space}
 use Rattle.wm_state.proofs.RowsStay.{rows_stay}
 use Rattle.wm_state.proofs.Settled.{Places}
-use Rattle.wm_state.proofs.Tests.{bool_apart}
 use Rattle.wm_state.proofs.WorkedOn.{counted_put, first_change}
 use Rattle.wm_written.proofs.DraftedWritten.{Apart, entries_in}
 use Rattle.wm_written.proofs.WrittenIds.{changes-write}
@@ -59,7 +59,7 @@ may_log p m work a c es rules can_work can there one = record {
   versions = refl;
   work = work_grows c.work work;
   space = there;
-  room = in_room (a.log_length + length es) (ap (λ (b : Space). nat_lt counter_limit (b.log_length + length es)) (one_space a can.space (sym there ∙ can.there)) ∙ can.short);
+  room = in_room (a.log_length + length es) (ap (λ (b : Space). nat_lt counter_limit (b.log_length + length es)) (same_Some a can.space (sym there ∙ can.there)) ∙ can.short);
   made = subst (λ (k : Counters). AreOld p k es) (same_counters p c can.counters one can.one) can.old;
   copied = can.copied;
 }
@@ -81,7 +81,7 @@ drafts_gain rs m work entries a c counters_id space_id id ids traced rules can_w
   kept = kept_gain rs (parts_of rs).tables counters_id space_id id d a es ids traced can.kept r;
   counted = λ some. counted_put rs work counters_id c d batch at.sorted at.one once (first_change counters_id _ _) keeps refl;
   nothing = some_edit (edits.Gain a.number entries) [] batch;
-  few = λ forks. absurd (bool_apart (sym forks));
+  few = λ forks. absurd (true≢false (sym forks));
   spared = λ n more one_append. absurd (no_append n more one_append);
   turned = λ left. ap (λ (q : Parts). q.turns) (parts-gained rs counters_id space_id id c d a es ids traced gains);
 }

@@ -1,6 +1,8 @@
 -- What the batch that makes an implicit savepoint alone makes of the records: the laws of a savepoint at what is newest, with the name and
 -- the numbers of one that is made for a birth.
 use Rattle.std.proofs.Common.{◌≡◌, ℕ, ◌+◌, ◌≤◌, nat_lt, true, List, [], ◌∷◌, ◌++◌, Some, refl, sym, ap, subst, ◌∙◌, arith}
+use Rattle.std.proofs.lemmas.Option.{same_Some}
+use Rattle.std.proofs.lemmas.Bool.{true≢false}
 use Rattle.std.specs.Option.{option_and_then, option_map, unwrap_or}
 use Rattle.std.specs.declared.alloc.Global.{Global}
 use Rattle.std.specs.declared.vec.Vec.{Vec}
@@ -24,10 +26,8 @@ use Rattle.wm_state.specs.declared.edit.Edit.TheVariants as edits
 use Rattle.wm_state.specs.declared.edit.NewEntry.{NewEntry}
 use Rattle.wm_state.proofs.Counting.{counts_as, counts_in, work_room}
 use Rattle.wm_state.proofs.Drafted.{some_edit}
-use Rattle.wm_state.proofs.Named.{one_space}
 use Rattle.wm_state.proofs.RowsStay.{new_apart, row_apart, rows_stay}
 use Rattle.wm_state.proofs.Settled.{Places, PlacesApart, places_apart}
-use Rattle.wm_state.proofs.Tests.{bool_apart}
 use Rattle.wm_state.proofs.WorkedOn.{counted_put, first_change}
 use Rattle.wm_forked.proofs.DraftedBorn.{implicit_same, implicit_short, same_spaces}
 use Rattle.wm_forked.proofs.DraftedSaved.{home_of, home_there}
@@ -58,7 +58,7 @@ keeps_so p m work n a c rules can_work can there one = record {
 }
   where
     same : can.space ≡ a
-    same = one_space can.space a (sym can.there ∙ there)
+    same = same_Some can.space a (sym can.there ∙ there)
 
 -- the batch makes of the records what the savepoint makes of each state
 pub drafts_keep : (rs : List Stored) (m work n : ℕ) (a : Space) (c : Counters) (counters_id space_id id : ℕ) → keep_rules (parts_of rs) ≡ true → CanWork (parts_of rs) m work → CanKeep (parts_of rs) n
@@ -90,7 +90,7 @@ drafts_keep rs m work n a c counters_id space_id id rules can_work can there at 
   kept = refl;
   counted = λ some. counted_put rs work counters_id c (moved c m work) batch at.sorted at.one once (first_change counters_id _ _) keeps refl;
   nothing = some_edit (edits.Keep n) [] batch;
-  few = λ forks. absurd (bool_apart (sym forks));
+  few = λ forks. absurd (true≢false (sym forks));
   spared = λ i entries one_append. absurd (no_append i entries one_append);
   turned = λ left.
       ap (λ (q : Parts). q.turns) (parts-saved rs counters_id space_id c (moved c m work) a (a.next_place + 1) (a.next_implicit + 1) id x at.sorted at.counters at.one at.space at.under).is;

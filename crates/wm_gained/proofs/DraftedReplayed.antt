@@ -1,5 +1,7 @@
 -- What the batch that writes entries made before in a version more makes of the records.
 use Rattle.std.proofs.Common.{◌≡◌, ℕ, ◌+◌, ◌≤◌, nat_lt, true, List, [], ◌∷◌, ◌++◌, map, length, Some, refl, sym, ap, subst, ◌∙◌, arith}
+use Rattle.std.proofs.lemmas.Option.{same_Some}
+use Rattle.std.proofs.lemmas.Bool.{true≢false}
 use Rattle.std.specs.List.{list_all}
 use Rattle.std.specs.declared.alloc.Global.{Global}
 use Rattle.std.specs.declared.vec.Vec.{Vec}
@@ -29,10 +31,8 @@ use Rattle.wm_state.proofs.Appending.{all_append}
 use Rattle.wm_state.proofs.Counting.{counts_as, counts_in, in_room, version_well, work_grows}
 use Rattle.wm_state.proofs.Drafted.{some_edit}
 use Rattle.wm_state.proofs.Growing.{forked_of, same_counters}
-use Rattle.wm_state.proofs.Named.{one_space}
 use Rattle.wm_state.proofs.RowsStay.{below_apart, new_apart, rows_stay}
 use Rattle.wm_state.proofs.Settled.{Places, PlacesApart, places_apart}
-use Rattle.wm_state.proofs.Tests.{bool_apart}
 use Rattle.wm_state.proofs.WorkedOn.{counted_put, second_change}
 use Rattle.wm_written.proofs.DraftedWritten.{Apart, apart_so, entries_in, rows_apart}
 use Rattle.wm_written.proofs.WrittenIds.{changes-write_new}
@@ -74,7 +74,7 @@ may_replay p m work a c es rules can_work can there one = record {
     space = refl;
     parent = refl;
   };
-  room = in_room (a.log_length + length es) (ap (λ (b : Space). nat_lt counter_limit (b.log_length + length es)) (one_space a can.space (sym there ∙ can.there)) ∙ can.short);
+  room = in_room (a.log_length + length es) (ap (λ (b : Space). nat_lt counter_limit (b.log_length + length es)) (same_Some a can.space (sym there ∙ can.there)) ∙ can.short);
   made = subst (λ (k : Counters). AreOld p k es) (same_counters p c can.counters one can.one) can.old;
   copied = can.copied;
 }
@@ -99,7 +99,7 @@ drafts_replay rs m work entries a c counters_id space_id id ids traced rules can
   kept = kept_replay rs (parts_of rs).tables c.next_version counters_id space_id id d a v es ids drawn traced can.kept redrawn;
   counted = λ some. counted_put rs work counters_id c d batch at.sorted at.one once (second_change id counters_id _ _ _ (λ same. below_apart counters_id id apart.counters same)) keeps refl;
   nothing = some_edit (edits.Replay a.number entries) [] batch;
-  few = λ forks. absurd (bool_apart (sym forks));
+  few = λ forks. absurd (true≢false (sym forks));
   spared = λ n more one_append. absurd (no_append n more one_append);
   turned = λ left. ap (λ (q : Parts). q.turns) (parts-replayed rs counters_id space_id id c d a v es ids drawn traced replays);
 }

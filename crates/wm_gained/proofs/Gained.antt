@@ -1,6 +1,7 @@
 -- A workspace whose log gained entries, and its record, told by those of before.
 use Rattle.std.proofs.Common.{◌≡◌, ◌≢◌, ℕ, ◌+◌, ◌==◌, Bool, true, false, cond, List, Option, Some, None, refl, sym, ap, ◌∙◌, ◌⊎◌, inl, inr, ⊎_elim, length, length-append}
 use Rattle.std.proofs.lemmas.Bool.{cases_eq, eq-eqb, ne_eqb}
+use Rattle.std.proofs.lemmas.Option.{same_Some}
 use Rattle.std.specs.Option.{option_map}
 use Rattle.wm_graph.specs.Parts.{Parts, space_of}
 use Rattle.wm_spec.specs.Lists.{Entry}
@@ -50,11 +51,8 @@ pub record HadGained (p : Parts) (n : ℕ) (es : List Entry) (m : ℕ) (new : Sp
 pub had_gained : (p q : Parts) (n : ℕ) (es : List Entry) → Gained p q n es → (m : ℕ) (new : Space) → space_of q.spaces m ≡ Some new → HadGained p n es m new
 had_gained p q n es g m new is = by_number (cases_eq m n)
   where
-    some_same : (x y : Space) → Some x ≡ Some y → x ≡ y
-    some_same x y h = cc
-
     by_number : (m ≡ n) ⊎ (m ≢ n) → HadGained p n es m new
-    by_number (inl here) = record { old = g.old; is = ap (space_of p.spaces) here ∙ g.old_is; how = inl (here, some_same _ _ (sym is ∙ ap (space_of q.spaces) here ∙ g.here)) }
+    by_number (inl here) = record { old = g.old; is = ap (space_of p.spaces) here ∙ g.old_is; how = inl (here, same_Some _ _ (sym is ∙ ap (space_of q.spaces) here ∙ g.here)) }
     by_number (inr other) = record { old = new; is = sym (g.elsewhere m (ne_eqb _ _ other)) ∙ is; how = inr (other, refl) }
 
 -- the fields with a log that is longer by so many

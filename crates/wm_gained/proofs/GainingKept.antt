@@ -1,6 +1,6 @@
 -- What the batch of a log that gains entries puts can be kept, and the ids that it has.
 use Rattle.std.proofs.Common.{◌≡◌, ℕ, nat_lt, true, List, ◌∷◌, ◌++◌, map, refl, sym}
-use Rattle.std.proofs.lemmas.Bool.{ne_eqb}
+use Rattle.std.proofs.lemmas.Bool.{ne_eqb, and_from, lt-ltb}
 use Rattle.std.specs.List.{list_all}
 use Rattle.wm_graph.specs.Parts.{parts_of}
 use Rattle.wm_spec.specs.Lists.{Entry}
@@ -20,8 +20,7 @@ use Rattle.wm_state.proofs.Appending.{all_append}
 use Rattle.wm_state.proofs.ByKind.{under_found}
 use Rattle.wm_state.proofs.RowsStay.{LeavesRows, away_append, away_dropped, away_put, row_apart}
 use Rattle.wm_state.proofs.Settled.{Places, PlacesApart, places_apart}
-use Rattle.wm_state.proofs.Tests.{and_true}
-use Rattle.wm_written.proofs.DraftedWritten.{Apart, all_below, lt_test, two_before}
+use Rattle.wm_written.proofs.DraftedWritten.{Apart, all_below, two_before}
 use Rattle.wm_written.proofs.WrittenKept.{drawn_kept, kept_dropped, kept_hists, kept_put, kept_touches, marks_kept}
 use Rattle.wm_gained.specs.Gaining.{Retraced, gain_batch}
 
@@ -44,7 +43,7 @@ pub apart_gained : (rs : List Stored) (counters_id space_id id : ℕ) (a : Space
     → Apart counters_id space_id id ids
 apart_gained rs counters_id space_id id a c es ids traced at r = record {
   differ = two_before counters_id space_id ids (ne_eqb space_id counters_id (λ same. apart.apart (sym same))) (r.gone counters_id (records.Counters c) at.counters) (r.gone space_id (records.Space a) at.space) r.once;
-  under = and_true (nat_lt counters_id id) _ (lt_test counters_id id apart.counters) (and_true (nat_lt space_id id) _ (lt_test space_id id apart.space) (all_below rs id ids at.under r.there));
+  under = and_from (nat_lt counters_id id) _ (lt-ltb counters_id id apart.counters) (and_from (nat_lt space_id id) _ (lt-ltb space_id id apart.space) (all_below rs id ids at.under r.there));
 }
   where
     apart : PlacesApart counters_id space_id id

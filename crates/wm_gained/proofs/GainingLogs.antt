@@ -1,8 +1,9 @@
 -- The logs after one of them gained entries: their records, what they touch, the entries themselves and their rows.
-use Rattle.std.proofs.Common.{◌≡◌, ◌≢◌, ℕ, ◌+◌, ◌≤◌, ◌==◌, nat_lt, nat_le, cond, true, false, List, ◌++◌, length, take, Option, Some, None, refl, sym, ap, subst, ◌∙◌, ◌⊎◌, inl, inr, ⊎_elim, arith}
-use Rattle.std.proofs.lemmas.Bool.{cases_eq, eq-eqb, ne_eqb}
+use Rattle.std.proofs.Common.{◌≡◌, ◌≢◌, ℕ, ◌+◌, ◌==◌, nat_lt, nat_le, cond, true, false, List, ◌++◌, length, take, Option, Some, None, refl, sym, ap, subst, ◌∙◌, ◌⊎◌, inl, inr, ⊎_elim, arith}
+use Rattle.std.proofs.lemmas.Bool.{cases_eq, eq-eqb, ne_eqb, leb-true}
 use Rattle.std.proofs.lemmas.List.{take-append-le}
 use Rattle.std.proofs.lemmas.List.Elements.{All-append}
+use Rattle.std.proofs.lemmas.Option.{same_Some, none-some}
 use Rattle.std.specs.List.{All, slice_get}
 use Rattle.std.specs.Option.{option_map, option_map_or, option_and_then}
 use Rattle.wm_graph.specs.Parts.{Parts}
@@ -29,10 +30,7 @@ module _ (p q : Parts) (s t : Durable) (n : ℕ) (es : List Entry) (g : Gained p
 
   -- the record of the workspace has its fields
   fields_here : (o : Workspace) → workspace_of s.spaces n ≡ Some o → fields_of g.old ≡ fields_in o
-  fields_here o is = some_same (fields_of g.old) (fields_in o) (sym (ap (option_map fields_of) g.old_is) ∙ st.spaces.same n ∙ ap (option_map fields_in) is)
-    where
-      some_same : (f k : SpaceFields) → Some f ≡ Some k → f ≡ k
-      some_same f k e = cc
+  fields_here o is = same_Some (fields_of g.old) (fields_in o) (sym (ap (option_map fields_of) g.old_is) ∙ st.spaces.same n ∙ ap (option_map fields_in) is)
 
   ready : KeepReady s.tables t.tables
   ready = KeepReady-same s.tables t.tables tables
@@ -52,7 +50,7 @@ module _ (p q : Parts) (s t : Durable) (n : ℕ) (es : List Entry) (g : Gained p
     kept = λ making k made.
         let m = marked_by p s n making o k g.old st is made g.old_is in
         subst (λ xs. TouchesTell q.touches n k.place xs)
-        (sym (take-append-le k.log_length o.lists.log es (not_more k.log_length (length o.lists.log) (ap (nat_le k.log_length) (sym (ap (λ (f : SpaceFields). f.log_length) fields)) ∙ m.log))))
+        (sym (take-append-le k.log_length o.lists.log es (leb-true k.log_length (length o.lists.log) (ap (nat_le k.log_length) (sym (ap (λ (f : SpaceFields). f.log_length) fields)) ∙ m.log))))
         (tells_kept n g.place (length o.lists.log) k.place es (take k.log_length o.lists.log) p.touches q.touches touched (behind k.place g.old.next_place m.place g.last) (st.touches.kept n making o k is made));
   }
     where
@@ -67,9 +65,6 @@ module _ (p q : Parts) (s t : Durable) (n : ℕ) (es : List Entry) (g : Gained p
 
       behind : (place next : ℕ) → nat_lt place next ≡ true → next ≡ g.place + 1 → nat_lt g.place place ≡ false
       behind place next lt same = grind (arith, lt, same)
-
-      not_more : (i j : ℕ) → nat_le i j ≡ true → i ≤ j
-      not_more i j e = grind (arith, e)
 
   pub TouchesStand-gained : TouchesStand q t
   TouchesStand-gained = TouchesStand-kept p q s t (λ m new is. by_how m new (before m new is)) st.touches
@@ -121,11 +116,8 @@ module _ (p q : Parts) (s t : Durable) (n : ℕ) (es : List Entry) (g : Gained p
   longer : Longer
   longer = by_space (workspace_of s.spaces n) refl (sym (ap (option_map fields_of) g.old_is) ∙ st.spaces.same n)
     where
-      none_some : (f : SpaceFields) → (let nothing : Option SpaceFields = None in nothing) ≡ Some f → ⊥
-      none_some f e = cc
-
       by_space : (o : Option Workspace) → workspace_of s.spaces n ≡ o → Some (fields_of g.old) ≡ option_map fields_in o → Longer
-      by_space None found e = absurd (none_some (fields_of g.old) (sym e))
+      by_space None found e = absurd (none-some (fields_of g.old) (sym e))
       by_space (Some v) found e = record {
         many = ap (λ (f : SpaceFields). f.log_length) (fields_here v found) ∙ ap length (sym (log_of-found s.spaces n v found));
         here =

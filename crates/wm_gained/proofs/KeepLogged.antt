@@ -1,6 +1,8 @@
 -- The rules hold of the records with more entries of a log that were made before: no stamp is given and no row comes.
-use Rattle.std.proofs.Common.{◌≡◌, ℕ, ◌+◌, ◌^◌, ◌≤◌, ◌==◌, nat_le, true, ◌&&◌, List, [], ◌∷◌, ◌++◌, refl, sym, ap, ◌∙◌, arith}
+use Rattle.std.proofs.Common.{◌≡◌, ℕ, ◌+◌, ◌^◌, ◌≤◌, ◌==◌, nat_le, true, ◌&&◌, List, [], ◌∷◌, ◌++◌, refl, sym, ap, ◌∙◌}
+use Rattle.std.proofs.lemmas.Bool.{and_from, le-leb}
 use Rattle.std.specs.List.{list_all}
+use Rattle.wm_base.proofs.Plain.{nat_le-itself, nat_le-more}
 use Rattle.wm_graph.specs.Parts.{Parts, row_of, space_of, table_of}
 use Rattle.wm_graph.specs.Rules.{are_counters, are_hists, are_locks, are_pieces, are_rows, are_savepoints, are_spaces, are_versions, differ, has_few, is_hist, is_touch, keep_rules, meet, same_position}
 use Rattle.wm_spec.specs.declared.record.counters.Counters.{Counters}
@@ -11,11 +13,11 @@ use Rattle.wm_spec.specs.declared.record.trace.Trace.{Trace}
 use Rattle.wm_state.specs.Writes.{longer_by}
 use Rattle.wm_state.proofs.Apart.{Ruled, keeps_all, ruled}
 use Rattle.wm_state.proofs.Growing.{same_counters}
-use Rattle.wm_state.proofs.Keeping.{KeepRows-same, KeepSpaces, KeepSpaces-swap, KeepTables-same, KeepVersions-same, are_savepoints-kept, le_itself, le_of}
+use Rattle.wm_state.proofs.Keeping.{KeepRows-same, KeepSpaces, KeepSpaces-swap, KeepTables-same, KeepVersions-same, are_savepoints-kept}
 use Rattle.wm_state.proofs.KeepingTurns.{are_locks-kept, are_marks-kept, are_turns-kept, turned-swap}
 use Rattle.wm_state.proofs.Named.{ruled_savepoints}
 use Rattle.wm_state.proofs.Respaced.{MayReplace, space_here, versions_replaced}
-use Rattle.wm_state.proofs.Tests.{all_middle, all_swap, and_true}
+use Rattle.wm_state.proofs.Tests.{all_middle, all_swap}
 use Rattle.wm_written.proofs.KeepWritten.{hists_kept, spaces_longer}
 
 -- what is there then of pieces and touches, and what comes of a log's entries
@@ -60,11 +62,11 @@ keep-logged p old new front a back k e may rules = keeps_all q new refl may.coun
     (are_savepoints-kept p q old.work new.work worked spaces (KeepVersions-same p q refl) refl few savepoints)
     (ap (are_rows p) may.stamps ∙ ap (λ (c : Counters). are_rows p c.next_stamp) same ∙ rule.rows)
     (ap (are_pieces (record p { pieces = e.pieces })) may.stamps ∙ may.pieces)
-    (hists_kept p q old.next_stamp new.next_stamp a e.hists (ap (nat_le old.next_stamp) may.stamps ∙ le_itself old.next_stamp) (KeepTables-same p q refl) spaces (KeepRows-same p q refl) refl
+    (hists_kept p q old.next_stamp new.next_stamp a e.hists (ap (nat_le old.next_stamp) may.stamps ∙ nat_le-itself old.next_stamp) (KeepTables-same p q refl) spaces (KeepRows-same p q refl) refl
     (ap (λ ss. space_of ss a.number) may.spaces ∙ space_here front back a a.number before refl)
     (ap (λ n. list_all (is_hist (table_of p.tables) (space_of (front ++ longer_by k a ∷ back)) (row_of p.rows) n) e.hists) may.stamps ∙ may.hists_well)
     may.hists_differ may.hists_new (ap (λ (c : Counters). are_hists p c.next_stamp) same ∙ rule.hists))
-    (and_true (differ meet q.touches) (list_all (is_touch (table_of q.tables) (space_of q.spaces)) q.touches) may.touches_differ may.touches_well)
+    (and_from (differ meet q.touches) (list_all (is_touch (table_of q.tables) (space_of q.spaces)) q.touches) may.touches_differ may.touches_well)
     (are_locks-kept p q old.work new.work worked (KeepTables-same p q refl) spaces refl (ap (λ (c : Counters). are_locks p c.work) same ∙ rule.locks))
     (are_marks-kept p q (KeepTables-same p q refl) spaces refl rule.marks)
     (are_turns-kept p q spaces refl (turned-swap p q front back a (longer_by k a) refl refl may.spaces refl rule.turns) rule.turns)
@@ -82,16 +84,13 @@ keep-logged p old new front a back k e may rules = keeps_all q new refl may.coun
     longer_may = record { number = refl; name = refl; parent = refl; birth = refl; base = refl }
 
     worked : nat_le old.work new.work ≡ true
-    worked = le_of old.work new.work may.work
+    worked = le-leb old.work new.work may.work
 
     before : are_spaces (front ++ a ∷ back) ≡ true
     before = ap are_spaces (sym may.spaces) ∙ rule.spaces
 
     spaces : KeepSpaces p q
-    spaces = KeepSpaces-swap p q front back a (longer_by k a) refl refl (more a.log_length k) (le_itself a.next_place) refl may.spaces refl
-      where
-        more : (n m : ℕ) → nat_le n (n + m) ≡ true
-        more n m = grind arith
+    spaces = KeepSpaces-swap p q front back a (longer_by k a) refl refl (nat_le-more a.log_length k) (nat_le-itself a.next_place) refl may.spaces refl
 
     savepoints : are_savepoints p old.work ≡ true
     savepoints = ap (λ (c : Counters). are_savepoints p c.work) same ∙ rule.savepoints

@@ -1,6 +1,6 @@
 -- What edits of a merge leave: an implicit savepoint and a rebase leave each log, entries that come into one workspace leave another one,
 -- and none of them changes a parent.
-use Rattle.std.proofs.Common.{◌≡◌, ℕ, ◌≤◌, ◌==◌, Bool, true, false, cond, List, length, map, Option, Some, None, unwrap_or, refl, ap, ◌∙◌, arith}
+use Rattle.std.proofs.Common.{◌≡◌, ℕ, ◌≤◌, ◌==◌, Bool, true, false, cond, List, length, map, Option, Some, None, unwrap_or, refl, ap, ◌∙◌, le_refl}
 use Rattle.std.proofs.lemmas.Bool.{eqb-true}
 use Rattle.std.specs.Option.{option_and_then, option_map}
 use Rattle.std.specs.declared.alloc.Global.{Global}
@@ -38,9 +38,6 @@ log_still k n act number log ws w found = by_test (n == k) (workspace_of-changed
     by_test true is = record { workspace = act w; is = is; log = log w }
     by_test false is = record { workspace = w; is = is; log = refl }
 
-itself : (k : ℕ) → k ≤ k
-itself k = omega arith
-
 -- ---- an implicit savepoint
 
 pub leaves_keep : (m k n : ℕ) → LeavesLog (edited m (edits.Keep k)) n
@@ -51,8 +48,8 @@ leaves_keep m k n = record { tables = λ s. tables s (workspace_of s.spaces k); 
     tables s (Some v) = refl
 
     stamps : (s : Durable) (o : Option Workspace) → s.next_stamp ≤ (unwrap_or (option_and_then (keep_in m s) o) s).next_stamp
-    stamps s None = itself s.next_stamp
-    stamps s (Some v) = itself s.next_stamp
+    stamps s None = le_refl s.next_stamp
+    stamps s (Some v) = le_refl s.next_stamp
 
     there : (s : Durable) (w : Workspace) → workspace_of s.spaces n ≡ Some w → (o : Option Workspace) → LeftLog (unwrap_or (option_and_then (keep_in m s) o) s).spaces n w
     there s w found None = record { workspace = w; is = found; log = refl }
@@ -85,7 +82,7 @@ replay_leaves_parents m k entries s n = part_still (λ (w : Workspace). w.parent
 pub leaves_replay : (m k n : ℕ) (entries : Vec NewEntry Global) → (n == k) ≡ false → LeavesLog (edited m (edits.Replay k entries)) n
 leaves_replay m k n entries other = record {
   tables = λ s. refl;
-  stamps = λ s. itself s.next_stamp;
+  stamps = λ s. le_refl s.next_stamp;
   there = λ s w found. record { workspace = w; is = replay_leaves_space m k n entries other s ∙ found; log = refl };
 }
 
@@ -99,8 +96,8 @@ leaves_rebase m k n emptied = record { tables = λ s. tables s (parent_of s.spac
     tables s (Some p) = refl
 
     stamps : (s : Durable) (o : Option Workspace) → s.next_stamp ≤ (unwrap_or (option_map (rebased_in k emptied s) o) s).next_stamp
-    stamps s None = itself s.next_stamp
-    stamps s (Some p) = itself s.next_stamp
+    stamps s None = le_refl s.next_stamp
+    stamps s (Some p) = le_refl s.next_stamp
 
     there : (s : Durable) (w : Workspace) → workspace_of s.spaces n ≡ Some w → (o : Option Workspace) → LeftLog (unwrap_or (option_map (rebased_in k emptied s) o) s).spaces n w
     there s w found None = record { workspace = w; is = found; log = refl }

@@ -1,6 +1,8 @@
 -- What comes into a log of entries that were made before: they may come, and their cells are touched.
 use Rattle.std.proofs.Common.{◌≡◌, ℕ, ◌+◌, ◌^◌, ◌≤◌, ◌==◌, nat_lt, nat_le, true, false, List, [], ◌∷◌, ◌++◌, map, Some, length, length-append, refl, sym, ap, ◌∙◌, arith}
+use Rattle.std.proofs.lemmas.Bool.{and_parts}
 use Rattle.std.specs.List.{All, filter, list_all}
+use Rattle.wm_base.proofs.Plain.{nat_le-itself}
 use Rattle.wm_graph.specs.Parts.{Parts, space_of, table_of}
 use Rattle.wm_graph.specs.Rules.{are_counters, are_pieces, are_spaces, differ, is_touch, keep_rules, meet}
 use Rattle.wm_spec.specs.Lists.{Entry}
@@ -14,9 +16,7 @@ use Rattle.wm_state.specs.Standing.{has_history}
 use Rattle.wm_state.specs.Touching.{AreMarked, Touched, drawn_all, is_unmet, marks_of, trace_of}
 use Rattle.wm_state.specs.Writes.{longer_by}
 use Rattle.wm_state.proofs.Apart.{ruled}
-use Rattle.wm_state.proofs.Keeping.{le_itself}
 use Rattle.wm_state.proofs.Respaced.{space_elsewhere, space_here}
-use Rattle.wm_state.proofs.Tests.{both}
 use Rattle.wm_written.proofs.EntryRecords.{hists_differ, hists_on}
 use Rattle.wm_written.proofs.KeepWritten.{spaces_longer}
 use Rattle.wm_written.proofs.PlannedWritten.{all_behind}
@@ -77,7 +77,7 @@ module _ (p : Parts) (old new : Counters) (a : Space) (place : ℕ) (es : List E
 
   -- the touches of before
   touches_before : (differ meet p.touches ≡ true) × (list_all (is_touch (table_of p.tables) (space_of p.spaces)) p.touches ≡ true)
-  touches_before = both (differ meet p.touches) (list_all (is_touch (table_of p.tables) (space_of p.spaces)) p.touches) (ruled p rules).touches
+  touches_before = and_parts (differ meet p.touches) (list_all (is_touch (table_of p.tables) (space_of p.spaces)) p.touches) (ruled p rules).touches
 
   -- they may come, whatever pieces are there then that keep their rules
   pub may_come : (pieces : List PieceRecord) → are_pieces (record p { pieces = pieces }) old.next_stamp ≡ true → MayCome p old new front a back (length es) (coming p a place es traced pieces)
@@ -93,9 +93,9 @@ module _ (p : Parts) (old new : Counters) (a : Space) (place : ℕ) (es : List E
     touches_differ = marked_apart a.number place a.log_length es p.touches (touches_then p a place es traced) touches_before.0 marked;
     touches_well = marked_longer (table_of p.tables) (space_of p.spaces) (space_of (front ++ b ∷ back)) a.number place a es p.touches (touches_then p a place es traced) may.space space_longer space_still
         (given a.next_place are.last) (on_old p old es may.made) touches_before.1 marked;
-    hists_well = hists_old p old (space_of (front ++ b ∷ back)) a.number a.log_length b es may.made may.copied space_longer (le_itself (a.log_length + length es));
+    hists_well = hists_old p old (space_of (front ++ b ∷ back)) a.number a.log_length b es may.made may.copied space_longer (nat_le-itself (a.log_length + length es));
     hists_differ = hists_differ p.tables a.number a.log_length es;
-    hists_new = hists_on p.tables a.number a.log_length a.log_length es (le_itself a.log_length);
+    hists_new = hists_on p.tables a.number a.log_length a.log_length es (nat_le-itself a.log_length);
   }
     where
       given : (next : ℕ) → next ≡ place + 1 → nat_lt place next ≡ true

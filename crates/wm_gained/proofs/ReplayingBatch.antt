@@ -1,5 +1,7 @@
 -- The records keep the rules and stand for the state after the batch that writes entries made before in a version more.
-use Rattle.std.proofs.Common.{◌≡◌, ℕ, ◌+◌, ◌<◌, ◌==◌, true, false, List, [], ◌∷◌, ◌++◌, map, length, Option, Some, None, is_some, append-nil, refl, sym, ap, subst, ◌∙◌, arith}
+use Rattle.std.proofs.Common.{◌≡◌, ℕ, ◌+◌, ◌==◌, true, false, List, [], ◌∷◌, ◌++◌, map, length, Option, Some, None, is_some, append-nil, refl, sym, ap, subst, ◌∙◌}
+use Rattle.std.proofs.lemmas.Bool.{true≢false}
+use Rattle.wm_base.proofs.Plain.{less_apart}
 use Rattle.wm_graph.specs.Parts.{Parts, parts_of}
 use Rattle.wm_graph.specs.Rules.{keep_rules}
 use Rattle.wm_spec.specs.Lists.{Entry}
@@ -23,7 +25,7 @@ use Rattle.wm_state.specs.Writes.{Redrawn, keeps_both, write_batch}
 use Rattle.wm_state.proofs.ById.{Ascend-set, record_at-set}
 use Rattle.wm_state.proofs.ByKind.{under_found}
 use Rattle.wm_state.proofs.Settled.{Places}
-use Rattle.wm_state.proofs.Tests.{bool_apart, none_if}
+use Rattle.wm_state.proofs.Tests.{none_if}
 use Rattle.wm_forked.proofs.PlannedSaved.{AllUnder-more, more_version}
 use Rattle.wm_written.proofs.Dropping.{dropped-set}
 use Rattle.wm_written.proofs.KeepWritten.{Entering, all_written}
@@ -69,12 +71,9 @@ module _ (ss : List Stored) (counters_id space_id id : ℕ) (old new : Counters)
   parts_first : parts_of first ≡ record (parts_of ss) { versions = (parts_of ss).versions ++ v ∷ [] }
   parts_first = more_version ss id v w.at.under
 
-  apart_lt : (m k : ℕ) → m < k → (m == k) ≡ false
-  apart_lt m k lt = grind (arith, lt)
-
   -- another record stands where it stood
   stays_at : (k : ℕ) (r : Record) → record_at ss k ≡ Some r → record_at first k ≡ Some r
-  stays_at k r found = record_at-set id (Some (records.Version v)) ss w.at.sorted k ∙ rw (apart_lt k id (under_found id ss k r w.at.under found)) found
+  stays_at k r found = record_at-set id (Some (records.Version v)) ss w.at.sorted k ∙ rw (less_apart k id (under_found id ss k r w.at.under found)) found
 
   places_first : Places first counters_id space_id (id + 1) old a
   places_first = record {
@@ -90,8 +89,8 @@ module _ (ss : List Stored) (counters_id space_id id : ℕ) (old new : Counters)
   kept_id = none_if (λ k. is_some (record_at ss k)) (λ k. k == id) (λ k there. below k (record_at ss k) refl there) ids w.redrawn.there
     where
       below : (k : ℕ) (o : Option Record) → record_at ss k ≡ o → is_some o ≡ true → (k == id) ≡ false
-      below k None found there = absurd (bool_apart (sym there))
-      below k (Some x) found there = apart_lt k id (under_found id ss k x w.at.under found)
+      below k None found there = absurd (true≢false (sym there))
+      below k (Some x) found there = less_apart k id (under_found id ss k x w.at.under found)
 
   dropped_first : AreDropped (keeps_both (is_clear (pieces_of v.number es)) (is_unmet a.number (marks_of place a.log_length es))) ids first
   dropped_first = dropped-set (keeps_both (is_clear (pieces_of v.number es)) (is_unmet a.number (marks_of place a.log_length es))) ids ss id (records.Version v) w.at.sorted refl kept_id w.redrawn.gone

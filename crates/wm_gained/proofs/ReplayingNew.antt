@@ -1,13 +1,13 @@
 -- Entries of which no two share a cell, in a version where no piece is yet: their pieces come as they are, and of the records that stand
 -- touches alone go.
-use Rattle.std.proofs.Common.{◌≡◌, ℕ, ◌==◌, nat_lt, Bool, true, false, not, List, [], ◌∷◌, ◌++◌, Option, Some, None, refl, sym, ap, subst, ◌∙◌, arith}
-use Rattle.std.proofs.lemmas.Bool.{eq-eqb}
+use Rattle.std.proofs.Common.{◌≡◌, ℕ, ◌==◌, nat_lt, Bool, true, false, not, List, [], ◌∷◌, ◌++◌, Some, refl, sym, ap, subst, ◌∙◌, arith}
+use Rattle.std.proofs.lemmas.Bool.{eq-eqb, and_parts, not-true}
 use Rattle.std.specs.Bool.{then_some}
 use Rattle.std.specs.List.{list_all, list_any}
 use Rattle.std.specs.Option.{option_or}
+use Rattle.wm_base.proofs.Plain.{option_or-none}
 use Rattle.wm_graph.specs.Parts.{as_piece, parts_of}
 use Rattle.wm_graph.specs.Rules.{collide, differ, keep_rules}
-use Rattle.wm_period.specs.Pieces.{Held}
 use Rattle.wm_spec.specs.Lists.{Cell, Entry}
 use Rattle.wm_spec.specs.Records.{record_at}
 use Rattle.wm_spec.specs.declared.record.Record.{Record}
@@ -24,31 +24,27 @@ use Rattle.wm_state.specs.Writes.{Redrawn, keeps_both}
 use Rattle.wm_state.proofs.Above.{pieces_lower}
 use Rattle.wm_state.proofs.ByKind.{Split, kinds, kinds-one, split_of, stored}
 use Rattle.wm_state.proofs.DrawingEnds.{ends-of}
-use Rattle.wm_state.proofs.Tests.{all_middle, both, not_true}
+use Rattle.wm_state.proofs.Tests.{all_middle}
 use Rattle.wm_written.proofs.Touched.{only-one}
 use Rattle.wm_gained.specs.Gaining.{Retraced}
 
 -- ---- pieces that do not collide
 
-or_none : (o : Option Held) → o ≡ option_or o None
-or_none None = refl
-or_none (Some h) = refl
-
 -- the last of them that covers a cell is the first
 last_first : (xs : List PieceRecord) → differ collide xs ≡ true → (w : ℕ) (c : Cell) → stored_at xs w c ≡ stored_last xs w c
 last_first [] apart w c = refl
 last_first (x ∷ xs) apart w c =
-    let h = both (not (list_any (collide x) xs)) (differ collide xs) apart in by_test (covers_at x w c) refl (not_true (list_any (collide x) xs) h.0) (last_first xs h.1 w c)
+    let h = and_parts (not (list_any (collide x) xs)) (differ collide xs) apart in by_test (covers_at x w c) refl (not-true (list_any (collide x) xs) h.0) (last_first xs h.1 w c)
   where
     by_test : (b : Bool) → covers_at x w c ≡ b → list_any (collide x) xs ≡ false → stored_at xs w c ≡ stored_last xs w c
         → option_or (then_some b (held_by x)) (stored_at xs w c) ≡ option_or (stored_last xs w c) (then_some b (held_by x))
     by_test true is free rest = ap (λ o. option_or o (Some (held_by x))) (sym (sym rest ∙ only-one x w c is xs free))
-    by_test false is free rest = rest ∙ or_none (stored_last xs w c)
+    by_test false is free rest = rest ∙ sym (option_or-none (stored_last xs w c))
 
 -- so they stand for themselves, over nothing
 pub drawn_alone : (news : List PieceRecord) → differ collide news ≡ true → AreDrawn news [] news
 drawn_alone news apart = record {
-  held = λ w c. last_first news apart w c ∙ or_none (stored_last news w c);
+  held = λ w c. last_first news apart w c ∙ sym (option_or-none (stored_last news w c));
   differ = apart;
   pass = λ test parts olds passed. passed;
   ends = ends-of news news (λ P e. e);
@@ -67,7 +63,7 @@ clear_above version (e ∷ es) y lt = rw (apart version y.version lt) (clear_abo
 none_met : (version : ℕ) (es : List Entry) (xs : List PieceRecord) → list_all (λ (x : PieceRecord). nat_lt x.version version) xs ≡ true → met_by (pieces_of version es) xs ≡ []
 none_met version es [] all = refl
 none_met version es (x ∷ xs) all =
-    let h = both (nat_lt x.version version) (list_all (λ (y : PieceRecord). nat_lt y.version version) xs) all in
+    let h = and_parts (nat_lt x.version version) (list_all (λ (y : PieceRecord). nat_lt y.version version) xs) all in
     rw (clear_above version es x h.0) (none_met version es xs h.1)
 
 -- a record of a piece is one of the pieces

@@ -1,7 +1,8 @@
 -- What entries that were made before make of the records in a version more: the rules, and the effect.
-use Rattle.std.proofs.Common.{◌≡◌, ℕ, ◌+◌, ◌^◌, ◌≤◌, nat_le, nat_lt, Bool, true, not, List, [], ◌∷◌, ◌++◌, is_some, length, append-nil, refl, sym, ap, subst, ◌∙◌, arith}
-use Rattle.std.proofs.lemmas.Bool.{eq-eqb}
+use Rattle.std.proofs.Common.{◌≡◌, ℕ, ◌+◌, ◌^◌, nat_le, nat_lt, Bool, true, not, List, [], ◌∷◌, ◌++◌, is_some, length, append-nil, refl, sym, ap, subst, ◌∙◌, le_refl}
+use Rattle.std.proofs.lemmas.Bool.{eq-eqb, and_parts}
 use Rattle.std.specs.List.{All, filter, list_all, slice_index_or}
+use Rattle.wm_base.proofs.Plain.{nat_le-itself}
 use Rattle.wm_graph.specs.Parts.{Parts, row_of, table_of, version_of}
 use Rattle.wm_graph.specs.Rules.{are_pieces, collide, differ, is_piece, keep_rules}
 use Rattle.wm_spec.specs.Lists.{Entry}
@@ -17,8 +18,7 @@ use Rattle.wm_state.specs.Writes.{AreAllLaid, WroteAll}
 use Rattle.wm_state.proofs.Apart.{apart_of, newest_record, ruled}
 use Rattle.wm_state.proofs.DrawingEnds.{ends-beside}
 use Rattle.wm_state.proofs.Growing.{MayFork, forked, forked_of, keep-forked, same_counters}
-use Rattle.wm_state.proofs.Keeping.{le_itself}
-use Rattle.wm_state.proofs.Tests.{all_filter, both}
+use Rattle.wm_state.proofs.Tests.{all_filter}
 use Rattle.wm_written.proofs.DrawingTouched.{kept-apart}
 use Rattle.wm_written.proofs.DrawnWell.{piece-parts}
 use Rattle.wm_written.proofs.KeepWritten.{pieces_kept}
@@ -65,15 +65,12 @@ module _ (p : Parts) (old new : Counters) (a : Space) (v : Version) (place : ℕ
     counters = may.fork.counters;
     stamps = refl;
     versions = refl;
-    work = same_work new.work;
+    work = le_refl new.work;
     space = may.fork.there;
     room = may.room;
     made = record { stamps = ap (λ n. list_all (λ (e : Entry). nat_lt e.stamp n) es) may.fork.stamps ∙ may.made.stamps; real = may.made.real; well = may.made.well; users = may.made.users };
     copied = λ k d lt history. may.copied k d lt;
   }
-    where
-      same_work : (w : ℕ) → w ≤ w
-      same_work w = omega arith
 
   traced_mid : AreTraced mid a place es traced
   traced_mid = record { last = are.last; marks = are.marks }
@@ -87,7 +84,7 @@ module _ (p : Parts) (old new : Counters) (a : Space) (v : Version) (place : ℕ
   well = is_piece (table_of mid.tables) (version_of mid.versions) (row_of mid.rows) new.next_stamp
 
   pieces_apart : (differ collide mid.pieces ≡ true) × (list_all well mid.pieces ≡ true)
-  pieces_apart = both (differ collide mid.pieces) (list_all well mid.pieces) pieces_mid
+  pieces_apart = and_parts (differ collide mid.pieces) (list_all well mid.pieces) pieces_mid
 
   drawn_well : list_all well drawn ≡ true
   drawn_well =
@@ -97,7 +94,7 @@ module _ (p : Parts) (old new : Counters) (a : Space) (v : Version) (place : ℕ
 
   pieces_keep : are_pieces (record mid { pieces = pieces_then p v.number es drawn }) new.next_stamp ≡ true
   pieces_keep =
-      pieces_kept mid (record mid { pieces = pieces_then p v.number es drawn }) new.next_stamp new.next_stamp [] (is_clear (pieces_of v.number es)) drawn (le_itself new.next_stamp) refl refl (sym (append-nil p.rows)) refl
+      pieces_kept mid (record mid { pieces = pieces_then p v.number es drawn }) new.next_stamp new.next_stamp [] (is_clear (pieces_of v.number es)) drawn (nat_le-itself new.next_stamp) refl refl (sym (append-nil p.rows)) refl
       (ap (λ rs. list_all (is_piece (table_of mid.tables) (version_of mid.versions) (row_of rs) new.next_stamp) drawn) (append-nil p.rows) ∙ drawn_well)
       are.pieces.differ (kept-apart (pieces_of v.number es) p.pieces drawn pieces_apart.0 are.pieces) pieces_mid
 

@@ -2,14 +2,14 @@
 use Rattle.std.proofs.Common.{◌≡◌, ℕ, zero, suc, Bool, true, false, cond, List, [], ◌∷◌, ◌++◌, length, refl, sym, ap, subst, ◌∙◌, append_assoc, inl, inr, arith, ◌≤◌, Option, Some, None, Result, Ok, Err}
 use Rattle.std.specs.Prelude.{◌⊎◌, ◌==◌, ◌||◌, ◌&&◌}
 use Rattle.std.proofs.lemmas.List.{append-nil, length-append}
-use Rattle.std.proofs.lemmas.Bool.{eqb-true}
+use Rattle.std.proofs.lemmas.Bool.{eqb-true, and_parts, eq-eqb, or_cases, or_left, or_right}
 use Rattle.std.proofs.Math.Nat.{le_refl}
 use Rattle.wm_grammar.specs.Symbols.{Symbol, left_of, has, next_in}
 use Rattle.wm_grammar.specs.Forms as forms
 use Rattle.wm_grammar.specs.Forms.{Form, gives, one_for, never, ◌or◌, optional, Items, OneMore, many_from}
 use Rattle.wm_grammar.specs.Reading as reading
 use Rattle.wm_grammar.specs.Reading.{Reader, bind, gives_at, never_at, taken, one_for_at, choose_at, optional_at, turns_at, many_from_at}
-use Rattle.wm_grammar.proofs.Lists.{Behind, Before, two_cuts, joins, within, apart, off, both, either, or_left, or_right, off_true, within_has, apart_has, has_left, has_right, joins_left, joins_right, apart_nil, same_sort, within_itself}
+use Rattle.wm_grammar.proofs.Lists.{Behind, Before, two_cuts, joins, within, apart, off, off_true, within_has, apart_has, has_left, has_right, joins_left, joins_right, apart_nil, within_itself}
 
 -- ---- what is told of a form by sorts alone
 
@@ -169,7 +169,7 @@ one_reads sort value (t ∷ ts) = go (t.sort == sort) refl
   where
     go : (b : Bool) → (t.sort == sort) ≡ b → Found (one_for sort value) (t ∷ ts) (cond b (taken (value t) t ts) (Err t.left))
     go true e = one_taken sort value t ts (value t) refl (eqb-true t.sort sort e)
-    go false e = one_refused sort value t ts (λ y s w. let k : (t.sort == sort) ≡ true = same_sort t.sort sort s in cc)
+    go false e = one_refused sort value t ts (λ y s w. let k : (t.sort == sort) ≡ true = eq-eqb t.sort sort s in cc)
 
 one_only : {A : Type 0} (value : Symbol → Option A) (s t : Symbol) (x y : A) → s ∷ [] ≡ t ∷ [] → value s ≡ Some x → value t ≡ Some y → x ≡ y
 one_only value s t x y e p q =
@@ -186,7 +186,7 @@ one_orderly sort value sure begins = record {
   full = λ e {x} w. let e : [] ≡ w.0 ∷ [] = w.1 in cc;
   first = λ c v b. elim b [
     | inl p ↦ absurd cc
-    | inr p ↦ let same : c ≡ p.0 = cc (p.2) in or_left (c.sort == sort) false (same_sort c.sort sort (ap (λ (s : Symbol). s.sort) same ∙ p.3))
+    | inr p ↦ let same : c ≡ p.0 = cc (p.2) in or_left (c.sort == sort) false (eq-eqb c.sort sort (ap (λ (s : Symbol). s.sort) same ∙ p.3))
   ];
   next = λ u x c v w b. absurd (elim b [
     | inl p ↦ let e : u ≡ w.0 ∷ [] = w.1 in cc
@@ -203,7 +203,7 @@ one_for_exact sort value = record { orderly = one_orderly sort value [] (λ c h.
 pub one_exact : {A : Type 0} (sort : ℕ) (value : Symbol → A) → Exact (one_for sort (λ t. Some (value t))) (one_for_at sort (λ t. Some (value t))) (one_shape sort (sort ∷ []))
 one_exact {A} sort value = record {
   orderly = one_orderly sort (λ t. Some (value t)) (sort ∷ [])
-      (λ c h. elim (either (c.sort == sort) false h) [ inl e ↦ inr (c, value c, refl, eqb-true c.sort sort e, refl) | inr e ↦ absurd cc ]);
+      (λ c h. elim (or_cases (c.sort == sort) false h) [ inl e ↦ inr (c, value c, refl, eqb-true c.sort sort e, refl) | inr e ↦ absurd cc ]);
   reads = one_reads sort (λ t. Some (value t));
 }
 
@@ -525,7 +525,7 @@ module _ {A : Type 0} (f g : Form A) (h k : Shape) (of : Orderly f h) (og : Orde
       has_either : (xs ys : List ℕ) (s : ℕ) → has (xs ++ ys) s ≡ true → (has xs s ≡ true) ⊎ (has ys s ≡ true)
       has_either [] ys s e = inr e
       has_either (x ∷ xs) ys s e =
-          elim (either (s == x) (has (xs ++ ys) s) e) [
+          elim (or_cases (s == x) (has (xs ++ ys) s) e) [
             | inl p ↦ inl (or_left (s == x) (has xs s) p)
             | inr p ↦ elim (has_either xs ys s p) [ inl q ↦ inl (or_right (s == x) (has xs s) q) | inr q ↦ inr q ]
           ]

@@ -1,8 +1,8 @@
 -- Lists in two pieces, and lists of sorts.
-use Rattle.std.proofs.Common.{◌≡◌, ℕ, Bool, true, false, List, [], ◌∷◌, ◌++◌, refl, sym, ap, ◌∙◌, append_assoc, inl, inr, arith}
-use Rattle.std.specs.Prelude.{◌⊎◌, ◌==◌, ◌||◌, ◌&&◌}
+use Rattle.std.proofs.Common.{◌≡◌, ℕ, Bool, true, false, List, [], ◌∷◌, ◌++◌, refl, sym, ap, ◌∙◌, append_assoc, inl, inr}
+use Rattle.std.specs.Prelude.{◌⊎◌, ◌==◌, ◌&&◌}
 use Rattle.std.proofs.lemmas.List.{append-nil}
-use Rattle.std.proofs.lemmas.Bool.{eqb-true}
+use Rattle.std.proofs.lemmas.Bool.{eqb-true, and_parts, eq-eqb, or_cases, or_left, or_right}
 use Rattle.wm_grammar.specs.Symbols.{Symbol, has, next_in}
 
 -- ---- two ways to cut one list
@@ -49,22 +49,6 @@ abbrev pub apart : List ℕ → List ℕ → Bool
 apart [] ys = true
 apart (x ∷ xs) ys = off (has ys x) && apart xs ys
 
-pub both : (a b : Bool) → (a && b) ≡ true → (a ≡ true) × (b ≡ true)
-both true b e = (refl, e)
-both false b e = absurd cc
-
-pub either : (a b : Bool) → (a || b) ≡ true → (a ≡ true) ⊎ (b ≡ true)
-either true b e = inl refl
-either false b e = inr e
-
-pub or_left : (a b : Bool) → a ≡ true → (a || b) ≡ true
-or_left true b e = refl
-or_left false b e = absurd cc
-
-pub or_right : (a b : Bool) → b ≡ true → (a || b) ≡ true
-or_right true b e = refl
-or_right false b e = e
-
 pub off_true : (a : Bool) → off a ≡ true → a ≡ true → ⊥
 off_true true e h = cc
 off_true false e h = cc
@@ -72,8 +56,8 @@ off_true false e h = cc
 pub within_has : (xs ys : List ℕ) (s : ℕ) → within xs ys ≡ true → has xs s ≡ true → has ys s ≡ true
 within_has [] ys s w h = absurd cc
 within_has (x ∷ xs) ys s w h =
-    let w2 = both (has ys x) (within xs ys) w in
-    elim (either (s == x) (has xs s) h) [
+    let w2 = and_parts (has ys x) (within xs ys) w in
+    elim (or_cases (s == x) (has xs s) h) [
       | inl e ↦ let is : s ≡ x = eqb-true s x e in rw is w2.0
       | inr e ↦ within_has xs ys s w2.1 e
     ]
@@ -81,8 +65,8 @@ within_has (x ∷ xs) ys s w h =
 pub apart_has : (xs ys : List ℕ) (s : ℕ) → apart xs ys ≡ true → has xs s ≡ true → has ys s ≡ true → ⊥
 apart_has [] ys s w h k = cc
 apart_has (x ∷ xs) ys s w h k =
-    let w2 = both (off (has ys x)) (apart xs ys) w in
-    elim (either (s == x) (has xs s) h) [
+    let w2 = and_parts (off (has ys x)) (apart xs ys) w in
+    elim (or_cases (s == x) (has xs s) h) [
       | inl e ↦ let is : x ≡ s = sym (eqb-true s x e) in off_true (has ys x) w2.0 (rw is k)
       | inr e ↦ apart_has xs ys s w2.1 e k
     ]
@@ -90,7 +74,7 @@ apart_has (x ∷ xs) ys s w h k =
 pub has_left : (xs ys : List ℕ) (s : ℕ) → has xs s ≡ true → has (xs ++ ys) s ≡ true
 has_left [] ys s h = absurd cc
 has_left (x ∷ xs) ys s h =
-    elim (either (s == x) (has xs s) h) [
+    elim (or_cases (s == x) (has xs s) h) [
       | inl e ↦ or_left (s == x) (has (xs ++ ys) s) e
       | inr e ↦ or_right (s == x) (has (xs ++ ys) s) (has_left xs ys s e)
     ]
@@ -111,15 +95,12 @@ pub apart_nil : (xs : List ℕ) → apart xs [] ≡ true
 apart_nil [] = refl
 apart_nil (x ∷ xs) = apart_nil xs
 
-pub same_sort : (s t : ℕ) → s ≡ t → (s == t) ≡ true
-same_sort s t e = grind arith
-
 within_more : (x : ℕ) (xs ys : List ℕ) → within xs ys ≡ true → within xs (x ∷ ys) ≡ true
 within_more x [] ys e = refl
 within_more x (z ∷ xs) ys e =
-    let w = both (has ys z) (within xs ys) e in
+    let w = and_parts (has ys z) (within xs ys) e in
     rw (or_right (z == x) (has ys z) w.0, within_more x xs ys w.1) refl
 
 pub within_itself : (xs : List ℕ) → within xs xs ≡ true
 within_itself [] = refl
-within_itself (x ∷ xs) = rw (or_left (x == x) (has xs x) (same_sort x x refl), within_more x xs xs (within_itself xs)) refl
+within_itself (x ∷ xs) = rw (or_left (x == x) (has xs x) (eq-eqb x x refl), within_more x xs xs (within_itself xs)) refl

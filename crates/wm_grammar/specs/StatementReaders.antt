@@ -37,10 +37,16 @@ column_type_at =
     (choose_at (sorts.DATE ∷ []) (do mark_at sorts.DATE; gives_at types.Time)
     (do mark_at sorts.TIMESTAMP; gives_at types.Time))))
 
+abbrev pub primary_key_at : Reader Bool
+primary_key_at = do mark_at sorts.PRIMARY; mark_at sorts.KEY; gives_at true
+
+abbrev pub never_null_at : Reader Bool
+never_null_at = do mark_at sorts.NOT; mark_at sorts.NULL; gives_at false
+
 unfoldable pub column_option_at : Bool → Bool → Reader Bool
-column_option_at false false = choose_at (sorts.PRIMARY ∷ []) (do mark_at sorts.PRIMARY; mark_at sorts.KEY; gives_at true) (do mark_at sorts.NOT; mark_at sorts.NULL; gives_at false)
-column_option_at false true = do mark_at sorts.PRIMARY; mark_at sorts.KEY; gives_at true
-column_option_at true false = do mark_at sorts.NOT; mark_at sorts.NULL; gives_at false
+column_option_at false false = choose_at (sorts.PRIMARY ∷ []) primary_key_at never_null_at
+column_option_at false true = primary_key_at
+column_option_at true false = never_null_at
 column_option_at true true = never_at
 
 -- what begins an option, where these have been given
@@ -62,15 +68,19 @@ column_item_at keyed = do
   given ← column_options_at keyed
   gives_at (items.Column n of (not keyed && given.0) given.1)
 
-unfoldable pub key_columns_at : Bool → Option (List ℕ) → Reader CreateItem
-key_columns_at true constraint = never_at
-key_columns_at false constraint = do
+-- the columns of a key, and what is made of them
+abbrev pub key_list_at : (List (List ℕ) → CreateItem) → Reader CreateItem
+key_list_at make = do
   mark_at sorts.PRIMARY
   mark_at sorts.KEY
   mark_at sorts.OPEN
   columns ← list_of_at plain_name_at
   mark_at sorts.CLOSE
-  gives_at (items.Primary constraint columns)
+  gives_at (make columns)
+
+unfoldable pub key_columns_at : Bool → Option (List ℕ) → Reader CreateItem
+key_columns_at true constraint = never_at
+key_columns_at false constraint = key_list_at (items.Primary constraint)
 
 abbrev pub plain_name_sorts : List ℕ
 plain_name_sorts = sorts.ID ∷ sorts.VALIDFROM ∷ sorts.VALIDTILL ∷ []
@@ -102,17 +112,27 @@ create_at = do
 unfoldable pub name_list_at : Reader (List (List ℕ))
 name_list_at = do mark_at sorts.OPEN; ns ← list_of_at name_at; mark_at sorts.CLOSE; gives_at ns
 
+-- the values of an INSERT, and what is made of them
+abbrev pub row_at : ℕ → (List Expr → Statement) → Reader Statement
+row_at depth make = do
+  mark_at sorts.VALUES
+  mark_at sorts.OPEN
+  values ← list_of_at (expr_at depth)
+  mark_at sorts.CLOSE
+  gives_at (make values)
+
+-- what stands behind the table of an INSERT
+abbrev pub named_row_at : ℕ → List ℕ → Reader Statement
+named_row_at depth table = do
+  names ← optional_at (sorts.OPEN ∷ []) name_list_at
+  row_at depth (trees.Insert table names)
+
 unfoldable pub insert_at : ℕ → Reader Statement
 insert_at depth = do
   mark_at sorts.INSERT
   mark_at sorts.INTO
   table ← id_at
-  names ← optional_at (sorts.OPEN ∷ []) name_list_at
-  mark_at sorts.VALUES
-  mark_at sorts.OPEN
-  values ← list_of_at (expr_at depth)
-  mark_at sorts.CLOSE
-  gives_at (trees.Insert table names values)
+  named_row_at depth table
 
 unfoldable pub set_at : ℕ → Reader Set
 set_at depth = do

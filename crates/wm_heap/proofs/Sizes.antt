@@ -6,9 +6,10 @@ use Rattle.std.specs.Option.{option_and_then, option_map}
 use Rattle.std.proofs.lemmas.Bool.{ltb-false}
 use Rattle.std.proofs.lemmas.List.{length-append, length-take, length-drop, drop_more}
 use Rattle.std.proofs.lemmas.List.Concat.{flat_map-cons}
+use Rattle.std.proofs.lemmas.Option.{same_Some}
 use Rattle.wm_codec.specs.Format.{times}
 use Rattle.wm_codec.specs.Fields.{u16, text_at, number_at}
-use Rattle.wm_codec.proofs.Exact.{then_some, map_some, some_is, guard_some}
+use Rattle.wm_codec.proofs.Exact.{then_some, map_some, guard_some}
 use Rattle.wm_heap.specs.declared.slot.Slot.{Slot}
 use Rattle.wm_heap.specs.Slots.{slot, slots_bytes, slots_of, used}
 
@@ -83,21 +84,21 @@ slot_takes bytes rest s e =
     let b = then_some (text_at a.0.1) (λ b. Some ((a.0.0, b.0), b.1)) m.0 a.2 in
     let front = number_takes bytes a.0.1 a.0.0 8 (from_be_bytes w64) a.1 in
     let back = text_takes a.0.1 b.0.1 b.0.0 b.1 in
-    let pair_is : ((a.0.0, b.0.0), b.0.1) ≡ m.0 = some_is ((a.0.0, b.0.0), b.0.1) m.0 b.2 in
+    let pair_is : ((a.0.0, b.0.0), b.0.1) ≡ m.0 = same_Some ((a.0.0, b.0.0), b.0.1) m.0 b.2 in
     let bytes_are : b.0.0 ≡ s.bytes = ap (λ p. p.0.1) pair_is ∙ ap (λ p. p.0.bytes) m.2 in
     let rest_is : b.0.1 ≡ rest = ap (λ p. p.1) pair_is ∙ ap (λ p. p.1) m.2 in
     omega (arith, front, back, ap length bytes_are, ap length rest_is)
 
 times_takes : (n : ℕ) (bytes rest : List ℕ) (slots : List Slot) → times slot n bytes ≡ Some (slots, rest) → used slots + length rest ≡ length bytes + 2
 times_takes zero bytes rest slots e =
-    let p = some_is ([], bytes) (slots, rest) e in
+    let p = same_Some ([], bytes) (slots, rest) e in
     let slots_are : [] ≡ slots = ap (λ p. p.0) p in
     let rest_is : bytes ≡ rest = ap (λ p. p.1) p in
     rw (← slots_are) (omega (arith, ap length rest_is))
 times_takes (suc n) bytes rest slots e =
     let first = then_some (slot.read bytes) (λ first. option_and_then (λ others. Some (first.0 ∷ others.0, others.1)) (times slot n first.1)) (slots, rest) e in
     let others = then_some (times slot n first.0.1) (λ others. Some (first.0.0 ∷ others.0, others.1)) (slots, rest) first.2 in
-    let p = some_is (first.0.0 ∷ others.0.0, others.0.1) (slots, rest) others.2 in
+    let p = same_Some (first.0.0 ∷ others.0.0, others.0.1) (slots, rest) others.2 in
     let slots_are : first.0.0 ∷ others.0.0 ≡ slots = ap (λ p. p.0) p in
     let rest_is : others.0.1 ≡ rest = ap (λ p. p.1) p in
     let front = slot_takes bytes first.0.1 first.0.0 first.1 in

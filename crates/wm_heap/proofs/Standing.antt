@@ -1,7 +1,7 @@
 -- How the pages of a change, and the places of the ids in them, stand after each step.
 use Rattle.std.proofs.Common.{◌≡◌, ℕ, suc, ◌+◌, ◌<◌, ◌≤◌, ◌≢◌, max, ◌⊎◌, inl, inr, ⊎_elim, Bool, true, false, cond, not, eqb, List, [], ◌∷◌, ◌++◌, length, filter, Option, Some, None, is_some, unwrap_or, Result, Ok, Err, OnOk, refl, sym, ap, subst, ◌∙◌, arith}
 use Rattle.std.specs.Option.{option_and_then}
-use Rattle.std.proofs.lemmas.Bool.{cases_lt, eqb-true}
+use Rattle.std.proofs.lemmas.Bool.{cases_lt, eqb-true, eq-eqb}
 use Rattle.wm_base.proofs.Plain.{none_since}
 use Rattle.wm_heap.specs.declared.slot.Slot.{Slot}
 use Rattle.wm_heap.specs.declared.heap.Heap.{Heap}
@@ -29,12 +29,9 @@ pub record Moves (slots : ℕ → List Slot) (count : ℕ) (old : ℕ → Option
 abbrev pub with_page : (ℕ → List Slot) → ℕ → List Slot → ℕ → List Slot
 with_page slots page new p = cond (eqb p page) new (slots p)
 
-test_here : (p : ℕ) → eqb p p ≡ true
-test_here p = grind arith
-
 -- the slots of a page that has them now
 on_page : (slots : ℕ → List Slot) (page : ℕ) (new : List Slot) → with_page slots page new page ≡ new
-on_page slots page new = rw (test_here page) refl
+on_page slots page new = rw (eq-eqb page page refl) refl
 
 pub IsPlaced-moves : (slots now : ℕ → List Slot) (count after : ℕ) (old place : ℕ → Option ℕ) (id page : ℕ) (new : List Slot) (where_to : Option ℕ) → IsPlaced slots count old → Moves slots count old id page new where_to
     → ((p : ℕ) → now p ≡ with_page slots page new p) → after ≡ max count (suc page) → ((j : ℕ) → place j ≡ cond (eqb j id) where_to (old j)) → IsPlaced now after place
@@ -61,7 +58,7 @@ IsPlaced-moves slots now count after old place id page new where_to placed moves
         let same = eqb-true j id e in
         let from = moves.from in
         let some : is_some (bytes_at new j) ≡ true = rw same t.1 in
-        let page_test : eqb p page ≡ true = rw t.0 (test_here page) in
+        let page_test : eqb p page ≡ true = rw t.0 (eq-eqb page page refl) in
         (let at_page = t.0 in omega arith, let at_page = t.0 in omega arith, here_new j p page_test some)
     there_by j p false e here =
         let t = placed.there j p here in
@@ -83,10 +80,10 @@ IsPlaced-moves slots now count after old place id page new where_to placed moves
     only_by j p from till true e false f here =
         let same_id = eqb-true j id e in
         let some : is_some (bytes_at (slots p) id) ≡ true = subst (λ k. is_some (bytes_at (slots p) k) ≡ true) same_id here in
-        absurd (let inside : p < count = below p till f in let same = moves.was p (placed.only id p from inside some) in let t : eqb p page ≡ true = rw same (test_here page) in cc)
+        absurd (let inside : p < count = below p till f in let same = moves.was p (placed.only id p from inside some) in let t : eqb p page ≡ true = rw same (eq-eqb page page refl) in cc)
       where
         below : (p : ℕ) → p < after → eqb p page ≡ false → p < count
-        below p till f = let apart : p ≡ page → ⊥ = (λ same. let t : eqb p page ≡ true = rw same (test_here page) in cc) in by_case (cases_lt p count) apart
+        below p till f = let apart : p ≡ page → ⊥ = (λ same. let t : eqb p page ≡ true = rw same (eq-eqb page page refl) in cc) in by_case (cases_lt p count) apart
           where
             by_case : (p < count) ⊎ (count ≤ p) → (p ≡ page → ⊥) → p < count
             by_case (inl less) apart = less
@@ -102,7 +99,7 @@ IsPlaced-moves slots now count after old place id page new where_to placed moves
     only_by j p from till false e false f here = placed.only j p from (below p till f) here
       where
         below : (p : ℕ) → p < after → eqb p page ≡ false → p < count
-        below p till f = let apart : p ≡ page → ⊥ = (λ same. let t : eqb p page ≡ true = rw same (test_here page) in cc) in by_case (cases_lt p count) apart
+        below p till f = let apart : p ≡ page → ⊥ = (λ same. let t : eqb p page ≡ true = rw same (eq-eqb page page refl) in cc) in by_case (cases_lt p count) apart
           where
             by_case : (p < count) ⊎ (count ≤ p) → (p ≡ page → ⊥) → p < count
             by_case (inl less) apart = less
@@ -114,7 +111,7 @@ IsPlaced-moves slots now count after old place id page new where_to placed moves
       where
         by_case : (p < count) ⊎ (count ≤ p) → p < count
         by_case (inl less) = less
-        by_case (inr more) = absurd (let page_till = moves.till in let same : p ≡ page = omega arith in let t : eqb p page ≡ true = rw same (test_here page) in cc)
+        by_case (inr more) = absurd (let page_till = moves.till in let same : p ≡ page = omega arith in let t : eqb p page ≡ true = rw same (eq-eqb page page refl) in cc)
 
 -- what stands under each id then
 pub bytes-move : (slots now : ℕ → List Slot) (count : ℕ) (old place : ℕ → Option ℕ) (id page : ℕ) (new : List Slot) (where_to : Option ℕ) → IsPlaced slots count old → Moves slots count old id page new where_to
@@ -164,7 +161,7 @@ done old new was now held in_use in_file page id slots place stands moves puts =
       where
         by_case : (p < page_count old) ⊎ (page_count old ≤ p) → p < page_count old
         by_case (inl less) = less
-        by_case (inr more) = absurd (let page_till = moves.till in let count = puts.count in let same : p ≡ page = omega arith in let t : eqb p page ≡ true = rw same (test_here page) in cc)
+        by_case (inr more) = absurd (let page_till = moves.till in let count = puts.count in let same : p ≡ page = omega arith in let t : eqb p page ≡ true = rw same (eq-eqb page page refl) in cc)
 
     there_by : (p : ℕ) → 2 ≤ p → p < page_count new → (b : Bool) → eqb p page ≡ b → IsThere now held in_use in_file p
     there_by p from till true e = inl (rw (puts.changed p, e) refl)
@@ -199,7 +196,7 @@ moves_behind slots count old page id base s s_id from till once none others fres
     away_from j e = rw s_id e
 
     here_is : is_some (bytes_at (base ++ s ∷ []) id) ≡ true
-    here_is = ap is_some (pushed id) ∙ (let t : eqb id s.id ≡ true = rw s_id (test_here id) in rw t refl)
+    here_is = ap is_some (pushed id) ∙ (let t : eqb id s.id ≡ true = rw s_id (eq-eqb id id refl) in rw t refl)
 
 -- a page without the slot of an id
 pub moves_out : (slots : ℕ → List Slot) (count : ℕ) (old : ℕ → Option ℕ) (page id : ℕ) (new : List Slot) → IsPlaced slots count old → old id ≡ Some page → new ≡ filter (λ s. not (eqb s.id id)) (slots page) → Moves slots count old id page new None
@@ -221,7 +218,7 @@ moves_out slots count old page id new placed here new_is =
     kept j = ap (λ xs. bytes_at xs j) new_is ∙ bytes_at-without id (slots page) j
 
     gone : is_some (bytes_at new id) ≡ false
-    gone = ap is_some (kept id) ∙ rw (test_here id) refl
+    gone = ap is_some (kept id) ∙ rw (eq-eqb id id refl) refl
 
 -- ---- room and growth
 
@@ -242,7 +239,7 @@ Grows-puts page id slots place old new was now puts from till = record {
   no_fewer = let count = puts.count in omega arith;
   kept = λ p there. rw (puts.changed p) (kept_by (eqb p page) (at was p) there);
   within = λ p there. within_by p (eqb p page) refl (subst (λ o. is_some o ≡ true) (puts.changed p) there);
-  grown = λ p low high. rw (puts.changed p) (let count = puts.count in let same : p ≡ page = omega arith in let t : eqb p page ≡ true = rw same (test_here page) in rw t refl);
+  grown = λ p low high. rw (puts.changed p) (let count = puts.count in let same : p ≡ page = omega arith in let t : eqb p page ≡ true = rw same (eq-eqb page page refl) in rw t refl);
 }
   where
     kept_by : (b : Bool) (o : Option (List Slot)) → is_some o ≡ true → is_some (cond b (Some slots) o) ≡ true
@@ -279,7 +276,7 @@ some_page [] p there = absurd cc
 some_page (e ∷ changed) p there = omega arith
 
 pub put_some : (page id : ℕ) (slots : List Slot) (place : Option ℕ) (old new : Heap) (was now : List (ℕ × List Slot)) → Puts page slots id place old new was now → 0 < length now
-put_some page id slots place old new was now puts = some_page now page (rw (puts.changed page, test_here page) refl)
+put_some page id slots place old new was now puts = some_page now page (rw (puts.changed page, eq-eqb page page refl) refl)
 
 -- slots put over those of a page that were taken out, in a heap with the same ids and places
 pub puts_over : (page id : ℕ) (slots : List Slot) (place : Option ℕ) (old mid new : Heap) (was between now : List (ℕ × List Slot)) → mid.ids ≡ old.ids → mid.places ≡ old.places → ((p : ℕ) → eqb p page ≡ false → at between p ≡ at was p)
@@ -335,7 +332,7 @@ abbrev pub slot_with : ℕ → List ℕ → Slot
 slot_with id bytes = record { id = id; bytes = bytes }
 
 bytes_behind : (base : List Slot) (id : ℕ) (bytes : List ℕ) → bytes_at base id ≡ None → bytes_at (base ++ slot_with id bytes ∷ []) id ≡ Some bytes
-bytes_behind base id bytes none = bytes_at-push base (slot_with id bytes) id none ∙ rw (test_here id) refl
+bytes_behind base id bytes none = bytes_at-push base (slot_with id bytes) id none ∙ rw (eq-eqb id id refl) refl
 
 -- bytes for an id that has none, on a page that is there
 pub added_there : (old new : Heap) (was now : List (ℕ × List Slot)) (held : ℕ → List ℕ) (in_use in_file page id : ℕ) (base : List Slot) (bytes : List ℕ) → Stands old was held in_use in_file → place_of old id ≡ None → 2 ≤ page → page < page_count old → base ≡ slots_now was held page
@@ -365,7 +362,7 @@ replaced old new was now held in_use in_file page id base bytes stands here base
     let t = stands.placed.there id page here in
     let till = t.1 in
     let kept : (j : ℕ) → bytes_at base j ≡ cond (eqb j id) None (bytes_at (slots_now was held page) j) = λ j. ap (λ xs. bytes_at xs j) base_is ∙ bytes_at-without id (slots_now was held page) j in
-    let none : bytes_at base id ≡ None = kept id ∙ rw (test_here id) refl in
+    let none : bytes_at base id ≡ None = kept id ∙ rw (eq-eqb id id refl) refl in
     let once : Once base = subst Once (sym base_is) (Once-without id (slots_now was held page) (stands.placed.once page t.0 t.1)) in
     let moves = moves_behind (slots_now was held) (page_count old) (place_of old) page id base (slot_with id bytes) refl t.0 (omega arith) once none (λ j e low. kept j ∙ rw e refl) (λ is_new. absurd (omega arith)) (λ p e. (let same : Some page ≡ Some p = sym here ∙ e in cc)) in
     let all = done old new was now held in_use in_file page id (base ++ slot_with id bytes ∷ []) (Some page) stands moves puts in
@@ -375,7 +372,7 @@ replaced old new was now held in_use in_file page id base bytes stands here base
 pub dropped : (old new : Heap) (was now : List (ℕ × List Slot)) (held : ℕ → List ℕ) (in_use in_file page id : ℕ) (base : List Slot) → Stands old was held in_use in_file → place_of old id ≡ Some page → base ≡ filter (λ s. not (eqb s.id id)) (slots_now was held page)
     → Puts page base id None old new was now → Done old new was now held in_use in_file id None
 dropped old new was now held in_use in_file page id base stands here base_is puts =
-    let none : bytes_at base id ≡ None = ap (λ xs. bytes_at xs id) base_is ∙ bytes_at-without id (slots_now was held page) id ∙ rw (test_here id) refl in
+    let none : bytes_at base id ≡ None = ap (λ xs. bytes_at xs id) base_is ∙ bytes_at-without id (slots_now was held page) id ∙ rw (eq-eqb id id refl) refl in
     let moves = moves_out (slots_now was held) (page_count old) (place_of old) page id base stands.placed here base_is in
     let all = done old new was now held in_use in_file page id base None stands moves puts in
     subst (λ o. Done old new was now held in_use in_file id o) none all

@@ -1,6 +1,7 @@
 -- Entries of a log on a table, by position; and what the rules say of an entry.
-use Rattle.std.proofs.Common.{◌≡◌, ℕ, ◌<◌, ◌≤◌, ◌==◌, nat_lt, nat_le, Bool, true, false, cond, ◌&&◌, List, [], ◌∷◌, map, Option, Some, None, refl, sym, ap, ◌∙◌, arith}
+use Rattle.std.proofs.Common.{◌≡◌, ℕ, ◌<◌, ◌≤◌, ◌==◌, nat_lt, nat_le, Bool, true, false, cond, ◌&&◌, List, [], ◌∷◌, map, Option, Some, None, refl, sym, ap, ◌∙◌}
 use Rattle.std.proofs.lemmas.Map.Keys.{sorted_head, sorted_tail}
+use Rattle.std.proofs.lemmas.Bool.{and_parts, leb-true, ltb-true}
 use Rattle.std.specs.List.{find, list_all}
 use Rattle.std.specs.List.Sorted.{IsStrictlySortedBy}
 use Rattle.std.specs.Option.{option_and_then, option_map_or}
@@ -19,7 +20,7 @@ use Rattle.wm_index.proofs.IdLists.{less_than}
 use Rattle.wm_index.specs.Hists.{AreByPosition, logged_on, stands_at}
 use Rattle.wm_state.proofs.Apart.{ruled}
 use Rattle.wm_state.proofs.ByKind.{Split, kinds, kinds-one, split_of}
-use Rattle.wm_state.proofs.Tests.{all_middle, both}
+use Rattle.wm_state.proofs.Tests.{all_middle}
 use Rattle.wm_view_rows.specs.History.{AreLogged, Follow}
 
 -- ---- the entries of a log
@@ -61,12 +62,6 @@ pub record HasTime (c : CellRange) : Type 0 where
   pub some : c.from < c.till
   pub till : c.till ≤ END
 
-less_of : (m n : ℕ) → nat_lt m n ≡ true → m < n
-less_of m n is = grind (arith, is)
-
-most_of : (m n : ℕ) → nat_le m n ≡ true → m ≤ n
-most_of m n is = grind (arith, is)
-
 -- what holds of each entry holds of that of an id
 one_found : (test : Hist → Bool) (ss : List Stored) (id : ℕ) (x : Hist) → option_and_then as_hist (record_at ss id) ≡ Some x → list_all test (kinds as_hist ss) ≡ true → test x ≡ true
 one_found test ss id x found each = by_record (record_at ss id) refl found
@@ -80,10 +75,10 @@ one_found test ss id x found each = by_record (record_at ss id) refl found
 
 time_of : (p : Parts) (next : ℕ) (x : Hist) → is_hist (table_of p.tables) (space_of p.spaces) (row_of p.rows) next x ≡ true → HasTime x.cells
 time_of p next x is =
-    let h = both (are_cells (table_of p.tables) x.cells) _ (both (is_short x.user && option_map_or (λ (s : Space). nat_lt x.position s.log_length) (space_of p.spaces x.space) false) _ is).1 in
-    let g = both (nat_lt x.cells.from x.cells.till && nat_le x.cells.till END) _ h.0 in
-    let k = both (nat_lt x.cells.from x.cells.till) (nat_le x.cells.till END) g.0 in
-    record { some = less_of x.cells.from x.cells.till k.0; till = most_of x.cells.till END k.1 }
+    let h = and_parts (are_cells (table_of p.tables) x.cells) _ (and_parts (is_short x.user && option_map_or (λ (s : Space). nat_lt x.position s.log_length) (space_of p.spaces x.space) false) _ is).1 in
+    let g = and_parts (nat_lt x.cells.from x.cells.till && nat_le x.cells.till END) _ h.0 in
+    let k = and_parts (nat_lt x.cells.from x.cells.till) (nat_le x.cells.till END) g.0 in
+    record { some = ltb-true x.cells.from x.cells.till k.0; till = leb-true x.cells.till END k.1 }
 
 pub has_time : (ss : List Stored) (id : ℕ) (x : Hist) → keep_rules (parts_of ss) ≡ true → option_and_then as_hist (record_at ss id) ≡ Some x → HasTime x.cells
 unfolding parts_of
@@ -91,4 +86,4 @@ has_time ss id x rules found =
     let r = ruled (parts_of ss) rules in
     time_of (parts_of ss) r.counters.next_stamp x
     (one_found (is_hist (table_of (parts_of ss).tables) (space_of (parts_of ss).spaces) (row_of (parts_of ss).rows) r.counters.next_stamp) ss id x found
-    (both (differ same_position (parts_of ss).hists) _ r.hists).1)
+    (and_parts (differ same_position (parts_of ss).hists) _ r.hists).1)

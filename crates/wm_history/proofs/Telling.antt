@@ -2,12 +2,11 @@
 use Rattle.std.proofs.Common.{◌≡◌, ℕ, Bool, true, false, cond, ◌&&◌, List, [], ◌∷◌, ◌++◌, map, reverse, Option, Some, None, refl, sym, ap, subst, ◌∙◌, append_assoc}
 use Rattle.std.proofs.lemmas.List.{map-append, reverse-append}
 use Rattle.std.proofs.lemmas.List.Elements.{filter_map-append}
-use Rattle.std.specs.Cmp.{Equal-is}
+use Rattle.std.proofs.lemmas.Bool.{true≢false}
 use Rattle.std.specs.List.{filter_map, find}
 use Rattle.std.specs.Option.{option_and_then, option_map}
 use Rattle.std.specs.Ordering.{is_eq}
 use Rattle.wm_base.specs.Key.{key_order}
-use Rattle.wm_base.specs.Orders.{key_order-equal, key_order-itself}
 use Rattle.wm_base.specs.declared.row.Row.{Row}
 use Rattle.wm_base.specs.declared.value.Value.{Value}
 use Rattle.wm_graph.specs.Parts.{Parts, as_hist, parts_of}
@@ -21,26 +20,18 @@ use Rattle.wm_view_rows.specs.History.{event_by}
 use Rattle.wm_view_rows.specs.Rows.{Event, history_row, history_rows, retired, shares}
 use Rattle.wm_history.specs.Later.{AreTold, Noted, events_at, last_over, meets, row_before, written_as, written_at}
 use Rattle.wm_history.specs.declared.later.Written.{Written}
+use Rattle.wm_state.proofs.Laying.{key_same, key_itself}
 
 -- ---- keys
 
-same_key : (k q : List Value) → is_eq (key_order k q) ≡ true → k ≡ q
-same_key k q tie = key_order-equal k q ((Equal-is (key_order k q)).0 tie)
-
-tied : (k : List Value) → is_eq (key_order k k) ≡ true
-tied k = ap is_eq (key_order-itself k)
-
 -- a test for one key, either way
 either_way : (k q : List Value) (b : Bool) → is_eq (key_order k q) ≡ b → is_eq (key_order q k) ≡ b
-either_way k q true tie = subst (λ l. is_eq (key_order l k) ≡ true) (same_key k q tie) (tied k)
+either_way k q true tie = subst (λ l. is_eq (key_order l k) ≡ true) (key_same k q tie) (key_itself k)
 either_way k q false apart = by_test (is_eq (key_order q k)) refl
   where
     by_test : (b : Bool) → is_eq (key_order q k) ≡ b → is_eq (key_order q k) ≡ false
     by_test false is = is
-    by_test true tie = absurd (true_false (sym (subst (λ l. is_eq (key_order l q) ≡ true) (same_key q k tie) (tied q)) ∙ apart))
-      where
-        true_false : true ≡ false → ⊥
-        true_false h = cc
+    by_test true tie = absurd (true≢false (sym (subst (λ l. is_eq (key_order l q) ≡ true) (key_same q k tie) (key_itself q)) ∙ apart))
 
 -- ---- what was written last
 
@@ -64,7 +55,7 @@ over_more p x done noted next over wrote e = ap (last_over e.from e.till) (wrote
     by_key false apart = over e ∙ ap (λ b. moment (cond (b && meets e.from e.till (written_as x)) (Some f) (find (shares e) done))) (sym (either_way x.cells.key e.key false apart))
     by_key true tie =
         last-push e.from e.till (written_at noted x.cells.key) (written_as x)
-        ∙ by_time (meets e.from e.till (written_as x)) (ap (λ k. last_over e.from e.till (written_at noted k)) (same_key x.cells.key e.key tie) ∙ over e)
+        ∙ by_time (meets e.from e.till (written_as x)) (ap (λ k. last_over e.from e.till (written_at noted k)) (key_same x.cells.key e.key tie) ∙ over e)
         ∙ ap (λ b. moment (cond (b && meets e.from e.till (written_as x)) (Some f) (find (shares e) done))) (sym (either_way x.cells.key e.key true tie))
       where
         by_time : (m : Bool) → last_over e.from e.till (written_at noted x.cells.key) ≡ retired e done

@@ -1,6 +1,6 @@
 -- The tables of a catalog: in the order of their numbers, and the same where no table changes.
 use Rattle.std.proofs.Common.{◌≡◌, ◌≢◌, ℕ, zero, suc, ◌<◌, ◌≤◌, nat_lt, Bool, true, false, cond, not, ◌||◌, List, [], ◌∷◌, ◌++◌, length, get_or, take, insert, map, Option, Some, None, is_some, refl, sym, ap, subst, ◌∙◌, ◌⊎◌, inl, inr, arith}
-use Rattle.std.proofs.lemmas.Bool.{cases_eq, cases_lt, lt-ltb, le-ltb, eq-eqb, ne_eqb}
+use Rattle.std.proofs.lemmas.Bool.{cases_eq, cases_lt, lt-ltb, le-ltb, eq-eqb, ne_eqb, and_from, and_parts, not-true, or_parts, true≢false}
 use Rattle.std.proofs.lemmas.Slice.Eq.{bytes_eq-Decides}
 use Rattle.std.specs.List.{cons_option, filter_map, list_any}
 use Rattle.std.specs.Option.{option_and_then}
@@ -14,7 +14,7 @@ use Rattle.wm_spec.specs.declared.record.stored.Stored.{Stored}
 use Rattle.wm_spec.specs.declared.record.table.Table.{Table}
 use Rattle.wm_state.specs.ById.{perhaps_before, set_at}
 use Rattle.wm_state.specs.Standing.{by_number, place_table}
-use Rattle.wm_state.proofs.Tests.{bool_apart, both, and_true, either_false, not_true}
+use Rattle.wm_state.proofs.Tables.{any-place, by_number-any}
 use Rattle.wm_index.proofs.Lists.{record_at-here, record_at-away}
 use Rattle.wm_index.specs.Indexed.{listed}
 use Rattle.wm_image.specs.Cataloged.{IsCatalog}
@@ -70,44 +70,27 @@ other_way : (t u : Table) → same_name t u ≡ false → same_name u t ≡ fals
 other_way t u apart = by_test (bytes_eq u.name t.name) refl
   where
     by_test : (b : Bool) → bytes_eq u.name t.name ≡ b → bytes_eq u.name t.name ≡ false
-    by_test true same = absurd (bool_apart (sym ((bytes_eq-Decides t.name u.name).1 (sym ((bytes_eq-Decides u.name t.name).0 same))) ∙ apart))
+    by_test true same = absurd (true≢false (sym ((bytes_eq-Decides t.name u.name).1 (sym ((bytes_eq-Decides u.name t.name).0 same))) ∙ apart))
     by_test false e = e
-
-any_placed : (p : Table → Bool) (t : Table) (ts : List Table) → list_any p (place_table t ts) ≡ (p t || list_any p ts)
-any_placed p t [] = refl
-any_placed p t (u ∷ us) = by_test (nat_lt u.number t.number) (any_placed p t us)
-  where
-    swapped : (a b c d : Bool) → d ≡ (b || c) → (a || d) ≡ (b || (a || c))
-    swapped true true c d is = refl
-    swapped true false c d is = refl
-    swapped false b c d is = is
-
-    by_test : (b : Bool) → list_any p (place_table t us) ≡ (p t || list_any p us) → list_any p (cond b (u ∷ place_table t us) (t ∷ u ∷ us)) ≡ (p t || (p u || list_any p us))
-    by_test true rest = swapped (p u) (p t) (list_any p us) (list_any p (place_table t us)) rest
-    by_test false rest = refl
-
-any_sorted : (p : Table → Bool) (ts : List Table) → list_any p (by_number ts) ≡ list_any p ts
-any_sorted p [] = refl
-any_sorted p (t ∷ ts) = any_placed p t (by_number ts) ∙ ap (λ b. p t || b) (any_sorted p ts)
 
 differ_placed : (t : Table) (us : List Table) → list_any (same_name t) us ≡ false → differ same_name us ≡ true → differ same_name (place_table t us) ≡ true
 differ_placed t [] alone apart = refl
 differ_placed t (u ∷ us) alone apart =
-    let h = either_false (same_name t u) (list_any (same_name t) us) alone in
-    let g = both (not (list_any (same_name u) us)) (differ same_name us) apart in
+    let h = or_parts (same_name t u) (list_any (same_name t) us) alone in
+    let g = and_parts (not (list_any (same_name u) us)) (differ same_name us) apart in
     by_test (nat_lt u.number t.number)
-    (ap (λ b. b || list_any (same_name u) us) (other_way t u h.0) ∙ not_true (list_any (same_name u) us) g.0) (differ_placed t us h.1 g.1)
+    (ap (λ b. b || list_any (same_name u) us) (other_way t u h.0) ∙ not-true (list_any (same_name u) us) g.0) (differ_placed t us h.1 g.1)
   where
     by_test : (b : Bool) → (same_name u t || list_any (same_name u) us) ≡ false → differ same_name (place_table t us) ≡ true → differ same_name (cond b (u ∷ place_table t us) (t ∷ u ∷ us)) ≡ true
     by_test true none rest =
-        and_true (not (list_any (same_name u) (place_table t us))) (differ same_name (place_table t us)) (ap not (any_placed (same_name u) t us ∙ none)) rest
-    by_test false none rest = and_true (not (list_any (same_name t) (u ∷ us))) (differ same_name (u ∷ us)) (ap not alone) apart
+        and_from (not (list_any (same_name u) (place_table t us))) (differ same_name (place_table t us)) (ap not (any-place (same_name u) t us ∙ none)) rest
+    by_test false none rest = and_from (not (list_any (same_name t) (u ∷ us))) (differ same_name (u ∷ us)) (ap not alone) apart
 
 pub differ_sorted : (ts : List Table) → differ same_name ts ≡ true → differ same_name (by_number ts) ≡ true
 differ_sorted [] apart = refl
 differ_sorted (t ∷ ts) apart =
-    let h = both (not (list_any (same_name t) ts)) (differ same_name ts) apart in
-    differ_placed t (by_number ts) (any_sorted (same_name t) ts ∙ not_true (list_any (same_name t) ts) h.0) (differ_sorted ts h.1)
+    let h = and_parts (not (list_any (same_name t) ts)) (differ same_name ts) apart in
+    differ_placed t (by_number ts) (by_number-any (same_name t) ts ∙ not-true (list_any (same_name t) ts) h.0) (differ_sorted ts h.1)
 
 -- ---- a change that is of no table
 
@@ -119,7 +102,7 @@ no_table o none = by_found (option_and_then as_table o) none
   where
     by_found : (found : Option Table) → is_some found ≡ false → found ≡ None
     by_found None e = refl
-    by_found (Some t) e = absurd (bool_apart e)
+    by_found (Some t) e = absurd (true≢false e)
 
 tables_perhaps : (id : ℕ) (becomes : Option Record) (ss : List Stored) → option_and_then as_table becomes ≡ None → tables_in (perhaps_before id becomes ss) ≡ tables_in ss
 tables_perhaps id None ss none = refl
@@ -141,7 +124,7 @@ pub tables_kept : (old new : List Stored) (id : ℕ) (becomes : Option Record) (
     → is ≡ is_some (option_and_then as_table becomes) → (was || is) ≡ false → (parts_of new).tables ≡ (parts_of old).tables
 unfolding parts_of
 tables_kept old new id becomes was is set was_told is_told neither =
-    let h = either_false was is neither in
+    let h = or_parts was is neither in
     ap tables_in set ∙ tables_set id becomes old (no_table (record_at old id) (sym was_told ∙ h.0)) (no_table becomes (sym is_told ∙ h.1))
 
 pub catalog_still : (old new : List Stored) (catalog : List Table) → (parts_of new).tables ≡ (parts_of old).tables → IsCatalog old catalog → IsCatalog new catalog

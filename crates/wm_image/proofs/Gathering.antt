@@ -12,6 +12,7 @@ use Rattle.std.specs.declared.cmp.Ordering.{Ordering}
 use Rattle.std.specs.declared.cmp.Ordering.TheVariants.{Less, Equal, Greater}
 use Rattle.std.specs.declared.alloc.Global.{Global}
 use Rattle.std.specs.declared.vec.Vec.{Vec}
+use Rattle.std.proofs.lemmas.Bool.{and_parts}
 use Rattle.wm_base.specs.Key.{key_order}
 use Rattle.wm_base.specs.Orders.{key_order_total}
 use Rattle.wm_base.specs.Period.{Span}
@@ -35,7 +36,6 @@ use Rattle.wm_spec.specs.declared.record.version.Version.{Version}
 use Rattle.wm_state.specs.Listing.{standing, AreRowsOf, row_shown_with, Groups, keys_of, joined, AreAllRowsOf, IsShowing}
 use Rattle.wm_state.specs.Standing.{stored_at, seen_at, newest_first, seen}
 use Rattle.wm_state.proofs.Apart.{ruled}
-use Rattle.wm_state.proofs.Tests.{both}
 use Rattle.wm_tree.specs.declared.version.Version.{Version as Node}
 use Rattle.wm_image.proofs.Spans.{maximal, value}
 use Rattle.wm_image.proofs.Spanning.{stretches_are, shown_keyed}
@@ -54,10 +54,10 @@ cell table key t = record { table = table; key = key; time = t }
 -- a piece by the rules has ended
 ended : (tables : ℕ → Option Table) (versions : ℕ → Option Version) (rows : ℕ → Option RowRecord) (next : ℕ) (x : PieceRecord) → is_piece tables versions rows next x ≡ true → nat_le x.cells.till END ≡ true
 ended tables versions rows next x e =
-    let h = both (is_some (versions x.version)) (are_cells tables x.cells && (nat_lt x.stamp next && (x.gone || option_map_or (is_row_at tables x.cells) (rows x.stamp) false))) e in
-    let g = both (are_cells tables x.cells) (nat_lt x.stamp next && (x.gone || option_map_or (is_row_at tables x.cells) (rows x.stamp) false)) h.1 in
-    let d = both (nat_lt x.cells.from x.cells.till && nat_le x.cells.till END) (option_map_or (is_key_of x.cells.key) (tables x.cells.table) false) g.0 in
-    (both (nat_lt x.cells.from x.cells.till) (nat_le x.cells.till END) d.0).1
+    let h = and_parts (is_some (versions x.version)) (are_cells tables x.cells && (nat_lt x.stamp next && (x.gone || option_map_or (is_row_at tables x.cells) (rows x.stamp) false))) e in
+    let g = and_parts (are_cells tables x.cells) (nat_lt x.stamp next && (x.gone || option_map_or (is_row_at tables x.cells) (rows x.stamp) false)) h.1 in
+    let d = and_parts (nat_lt x.cells.from x.cells.till && nat_le x.cells.till END) (option_map_or (is_key_of x.cells.key) (tables x.cells.table) false) g.0 in
+    (and_parts (nat_lt x.cells.from x.cells.till) (nat_le x.cells.till END) d.0).1
 
 past : (till end t : ℕ) → nat_le till end ≡ true → end ≤ t → nat_lt t till ≡ false
 past till end t e late = grind (arith, e, late)
@@ -72,7 +72,7 @@ late_stored : (tables : ℕ → Option Table) (versions : ℕ → Option Version
     → (xs : List PieceRecord) → list_all (is_piece tables versions rows next) xs ≡ true → stored_at xs v (cell table key t) ≡ None
 late_stored tables versions rows next table key t v late [] all = refl
 late_stored tables versions rows next table key t v late (x ∷ xs) all =
-    let h = both (is_piece tables versions rows next x) (list_all (is_piece tables versions rows next) xs) all in
+    let h = and_parts (is_piece tables versions rows next x) (list_all (is_piece tables versions rows next) xs) all in
     rw (
       uncovered (x.version == v) ((x.cells.table == table) && is_eq (key_order x.cells.key key)) (nat_le x.cells.from t) (nat_lt t x.cells.till)
           (past x.cells.till END t (ended tables versions rows next x h.0) late),
@@ -96,7 +96,7 @@ unseen pieces c none (x ∷ older) v = by_number (x.number == v) (unseen pieces 
 late_seen : (p : Parts) (version table : ℕ) (key : List Value) (t : ℕ) → keep_rules p ≡ true → END ≤ t → seen p version (cell table key t) ≡ None
 late_seen p version table key t rules late =
     let r = ruled p rules in
-    let all = both (differ collide p.pieces) (list_all (is_piece (table_of p.tables) (version_of p.versions) (row_of p.rows) r.counters.next_stamp) p.pieces) r.pieces in
+    let all = and_parts (differ collide p.pieces) (list_all (is_piece (table_of p.tables) (version_of p.versions) (row_of p.rows) r.counters.next_stamp) p.pieces) r.pieces in
     unseen p.pieces (cell table key t)
     (λ v. late_stored (table_of p.tables) (version_of p.versions) (row_of p.rows) r.counters.next_stamp table key t v late p.pieces all.1) (newest_first p.versions) version
 

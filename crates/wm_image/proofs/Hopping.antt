@@ -1,14 +1,16 @@
 -- Hops when a version comes or goes, and what they tell where the rules are kept.
 use Rattle.std.proofs.Common.{◌≡◌, ◌≢◌, ◌<◌, ◌≤◌, ◌==◌, ◌&&◌, ◌||◌, ◌-◌, ℕ, Bool, true, false, not, cond, eqb, nat_lt, List, [], ◌∷◌, map, get_or, Option, Some, None, is_some, refl, sym, ap, ◌∙◌, subst, arith, ◌⊎◌, inl, inr}
-use Rattle.std.proofs.lemmas.Bool.{cases_eq, cases_lt, eq-eqb, ne_eqb, lt-ltb, le-ltb}
+use Rattle.std.proofs.lemmas.Bool.{cases_eq, cases_lt, eq-eqb, ne_eqb, lt-ltb, le-ltb, or_right}
+use Rattle.std.proofs.lemmas.Option.{same_Some}
 use Rattle.std.specs.List.{AllByRecursion, cons_option, filter_map}
 use Rattle.std.specs.Option.{option_map, option_and_then, IfSome, IsSome}
+use Rattle.wm_base.proofs.Plain.{none_some, or_last}
 use Rattle.wm_graph.specs.Parts.{as_version, parts_of, version_of}
 use Rattle.wm_image.specs.Hops.{hop_at, is_near, Leads, IsHop, AreHops, AreWithout}
 use Rattle.wm_image.specs.declared.hops.Hop.{Hop}
 use Rattle.wm_image.specs.declared.hops.Hops.{Hops}
 use Rattle.wm_image.proofs.Descending.{is_on, passed}
-use Rattle.wm_image.proofs.Lists.{record_at-above, AllAbove-less}
+use Rattle.wm_image.proofs.Lists.{record_at-above}
 use Rattle.wm_image.proofs.Walking.{Ruled, path_goes_on}
 use Rattle.wm_index.proofs.Lists.{record_at-none, record_at-here, record_at-away}
 use Rattle.wm_index.specs.Indexed.{listed}
@@ -18,7 +20,8 @@ use Rattle.wm_spec.specs.declared.record.stored.Stored.{Stored}
 use Rattle.wm_spec.specs.declared.record.version.Version.{Version}
 use Rattle.wm_state.specs.ById.{Ascend, perhaps_before, set_at}
 use Rattle.wm_state.specs.Standing.{newest_first, node_of}
-use Rattle.wm_tree.proofs.Paths.{some_same, version_in-here, version_in-away}
+use Rattle.wm_state.proofs.ById.{AllAbove-less}
+use Rattle.wm_tree.proofs.Paths.{version_in-here, version_in-away}
 use Rattle.wm_tree.specs.Versions.{version_in, IsTree}
 use Rattle.wm_tree.specs.declared.version.Version.{Version as Node}
 
@@ -192,24 +195,15 @@ leads_new x far id becomes ss is from older below leads = λ p here step.
     (all_set (λ (v : Version). v.number ≡ x.number → p v.parent ≡ true) id becomes ss (its (option_and_then as_version becomes) is (λ n. p n ≡ true) up)
     (all_more (λ (v : Version). v.number < x.number) (λ (v : Version). v.number ≡ x.number → p v.parent ≡ true) (λ v less same. absurd (omega (arith, less, same))) (versions_in ss) below))
   where
-    some_same : (a b : Version) → Some a ≡ Some b → a ≡ b
-    some_same a b e = cc
-
     above : (o : Option Version) → o ≡ Some x → IfSome o (λ (v : Version). x.parent < v.number)
     above None e = tt
-    above (Some v) e = subst (λ (y : Version). x.parent < y.number) (sym (some_same v x e)) older
+    above (Some v) e = subst (λ (y : Version). x.parent < y.number) (sym (same_Some v x e)) older
 
     its : (o : Option Version) → o ≡ Some x → (P : ℕ → Type 0) → P x.parent → IfSome o (λ (v : Version). v.number ≡ x.number → P v.parent)
     its None e P up = tt
-    its (Some v) e P up = λ same. subst (λ (y : Version). P y.parent) (sym (some_same v x e)) up
+    its (Some v) e P up = λ same. subst (λ (y : Version). P y.parent) (sym (same_Some v x e)) up
 
 -- ---- the hops after a change
-
-some_version : (a b : Version) → Some a ≡ Some b → a ≡ b
-some_version a b e = cc
-
-some_hop : (a b : Hop) → Some a ≡ Some b → a ≡ b
-some_hop a b e = cc
 
 -- what holds of all versions holds of one that is found, and that has the number
 found_all : (P : Version → Type 0) (vs : List Version) (n : ℕ) (x : Version) → version_of vs n ≡ Some x → All P vs → (x.number ≡ n) × P x
@@ -218,7 +212,7 @@ found_all P (y ∷ ys) n x e all = by_number (cases_eq y.number n) (λ h. found_
   where
     by_number : (y.number ≡ n) ⊎ (y.number ≢ n) → (version_of ys n ≡ Some x → (x.number ≡ n) × P x) → (x.number ≡ n) × P x
     by_number (inl here) rest =
-        let same : y ≡ x = some_version y x (sym (ap (λ b. cond b (Some y) (version_of ys n)) (eq-eqb y.number n here)) ∙ e) in
+        let same : y ≡ x = same_Some y x (sym (ap (λ b. cond b (Some y) (version_of ys n)) (eq-eqb y.number n here)) ∙ e) in
         (ap (λ (z : Version). z.number) (sym same) ∙ here, subst P same all.0)
     by_number (inr away) rest = rest (sym (ap (λ b. cond b (Some y) (version_of ys n)) (ne_eqb y.number n away)) ∙ e)
 
@@ -231,12 +225,9 @@ record Owner (vs : List Version) (v : ℕ) (h : Hop) : Type 0 where
 owner : (vs : List Version) (v : ℕ) (h : Hop) → IsHop vs v h → Owner vs v h
 owner vs v h is = by_version (version_of vs v) refl is.parent
   where
-    same : (m n : ℕ) → Some m ≡ Some n → m ≡ n
-    same m n e = cc
-
     by_version : (o : Option Version) → version_of vs v ≡ o → option_map (λ (x : Version). x.parent) o ≡ Some h.parent → Owner vs v h
     by_version None there parent = absurd (cc)
-    by_version (Some x) there parent = record { version = x; there = there; parent = same x.parent h.parent parent }
+    by_version (Some x) there parent = record { version = x; there = there; parent = same_Some x.parent h.parent parent }
 
 hop_below : (vs : List Version) (hops : Hops) (v : ℕ) (h : Hop) → AreHops vs hops → IsHop vs v h → v ≤ hops.greatest
 hop_below vs hops v h are is =
@@ -254,7 +245,7 @@ if_none (Some x) P e = absurd (cc)
 
 if_it : (o : Option Version) (x : Version) (P : Version → Type 0) → o ≡ Some x → P x → IfSome o P
 if_it None x P e one = tt
-if_it (Some y) x P e one = subst P (sym (some_version y x e)) one
+if_it (Some y) x P e one = subst P (sym (same_Some y x e)) one
 
 hop_set : (v : ℕ) (h : Hop) (id : ℕ) (becomes : Option Record) (ss : List Stored) → IfSome (option_and_then as_version (record_at ss id)) (λ (x : Version). x.number ≢ v)
     → IfSome (option_and_then as_version becomes) (λ (x : Version). v < x.number) → IsHop (versions_in ss) v h → IsHop (versions_in (set_at id becomes ss)) v h
@@ -282,9 +273,6 @@ hops_kept ss id becomes hops none without are = record {
   known = λ v h e. hop_set v h id becomes ss (without v h e) (if_none (option_and_then as_version becomes) (λ (x : Version). v < x.number) none) (are.known v h e);
 }
 
-no_hop : (o : Option Hop) (h : Hop) → o ≡ None → o ≡ Some h → ⊥
-no_hop o h none e = cc
-
 -- no hop is left
 pub hops_cleared : (ss : List Stored) (id : ℕ) (becomes : Option Record) (x : Version) (old new : Hops) → option_and_then as_version becomes ≡ Some x → new.by_number.items ≡ []
     → old.greatest ≤ new.greatest → x.number ≤ new.greatest → AreHops (parts_of ss).versions old → AreHops (parts_of (set_at id becomes ss)).versions new
@@ -292,7 +280,7 @@ unfolding parts_of
 hops_cleared ss id becomes x old new is empty more covered are = record {
   below = all_set (λ (v : Version). v.number ≤ new.greatest) id becomes ss (if_it (option_and_then as_version becomes) x (λ (v : Version). v.number ≤ new.greatest) is covered)
       (all_more (λ (v : Version). v.number ≤ old.greatest) (λ (v : Version). v.number ≤ new.greatest) (λ v less. omega (arith, less, more)) (versions_in ss) are.below);
-  known = λ v h e. absurd (no_hop (hop_at new v) h (none_at new empty v) e);
+  known = λ v h e. absurd (none_some (hop_at new v) h (none_at new empty v) e);
 }
 
 kept : (b : Bool) (o : Option Hop) (h : Hop) → cond b o None ≡ Some h → o ≡ Some h
@@ -325,7 +313,7 @@ hops_learned ss id becomes x hop old new is above older parent leads updates top
 
     by_number : (v : ℕ) (h : Hop) → (x.number ≡ v) ⊎ (x.number ≢ v) → hop_at new v ≡ Some h → IsHop (versions_in (set_at id becomes ss)) v h
     by_number v h (inl here) e =
-        let same : hop ≡ h = some_hop hop h
+        let same : hop ≡ h = same_Some hop h
         (sym (updates v ∙ ap (λ b. cond b (Some hop) (cond (is_near old x.number && nat_lt v x.number) (hop_at old v) None)) (eq-eqb x.number v here)) ∙ e) in
         subst (λ n. IsHop (versions_in (set_at id becomes ss)) n h) here (subst (IsHop (versions_in (set_at id becomes ss)) x.number) same own)
     by_number v h (inr away) e =
@@ -353,7 +341,7 @@ parent_there (x ∷ older) n y tree is some =
   where
     by_number : (x.number ≡ n) ⊎ (x.number ≢ n) → (version_in older n ≡ Some y → IsSome (version_in older y.parent)) → IsSome (version_in (x ∷ older) y.parent)
     by_number (inl here) rest =
-        let same : x ≡ y = some_same x y (sym (version_in-here x older n here) ∙ is) in
+        let same : x ≡ y = same_Some x y (sym (version_in-here x older n here) ∙ is) in
         either_there (eqb x.number y.parent) x (version_in older y.parent)
         (subst (λ (z : Node). IsSome (version_in older z.parent)) same (tree.2 (λ zero_is. some (ap (λ (z : Node). z.parent) (sym same) ∙ zero_is))))
     by_number (inr away) rest = either_there (eqb x.number y.parent) x (version_in older y.parent) (rest (sym (version_in-away x older n away) ∙ is))
@@ -390,18 +378,10 @@ present true true e = refl
 present false true e = refl
 present a false e = cc
 
-or_true : (a b : Bool) → b ≡ true → (a || b) ≡ true
-or_true true b e = refl
-or_true false b e = e
-
-or_last : (a b : Bool) → a ≡ false → (a || b) ≡ true → b ≡ true
-or_last true b e f = cc
-or_last false b e f = f
-
 -- what stands on a path at the end of a hop or below stands on it before the hop
 pub skips : (vs : List Version) (far v sought : ℕ) → Ruled vs → Leads vs far v → is_some (version_of vs v) ≡ true → sought ≤ far → is_on vs sought far ≡ is_on vs sought v
 skips vs far v sought r leads there low =
-    let all : passes v ≡ true = leads passes (or_true (is_missing vs far) (same far) (alike_itself (is_on vs sought far))) (λ w from till. step w from) in
+    let all : passes v ≡ true = leads passes (or_right (is_missing vs far) (same far) (alike_itself (is_on vs sought far))) (λ w from till. step w from) in
     sym (alike_same (is_on vs sought v) (is_on vs sought far) (or_last (is_missing vs v) (same v) (present (v == 0) (is_some (version_of vs v)) there) all))
   where
     same : ℕ → Bool
@@ -429,7 +409,7 @@ skips vs far v sought r leads there low =
             let up : is_on vs sought x.parent ≡ is_on vs sought far =
             alike_same (is_on vs sought x.parent) (is_on vs sought far)
             (or_last (is_missing vs x.parent) (same x.parent) (not_missing x.parent (parent_known vs w x r is)) (found.1 found.0)) in
-            or_true (is_missing vs w) (same w)
+            or_right (is_missing vs w) (same w)
             (ap (λ b. alike b (is_on vs sought far)) (sym (passed vs w sought x r is (omega (arith, low, from))) ∙ up) ∙ alike_itself (is_on vs sought far))
 
 -- the hop that was looked up

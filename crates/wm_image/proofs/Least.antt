@@ -1,9 +1,10 @@
 -- The workspace of the least number that passes a test.
 use Rattle.std.proofs.Common.{◌≡◌, ℕ, zero, suc, ◌+◌, ◌<◌, ◌≤◌, ◌==◌, nat_le, Bool, true, false, cond, not, ◌&&◌, List, [], ◌∷◌, length, Option, Some, None, is_some, refl, sym, ap, ◌∙◌, ◌⊎◌, inl, inr, arith}
-use Rattle.std.proofs.lemmas.Bool.{cases_eq, eq-eqb, eqb-true, le-leb, lt-leb}
+use Rattle.std.proofs.lemmas.Bool.{cases_eq, eq-eqb, eqb-true, le-leb, lt-leb, and_parts, not-true, true≢false}
 use Rattle.std.specs.Bool.{then_some}
 use Rattle.std.specs.List.{filter_map, list_any}
 use Rattle.std.specs.Option.{option_and_then, option_map_or, option_or}
+use Rattle.wm_base.proofs.Plain.{nat_le-trans}
 use Rattle.wm_graph.specs.Parts.{Parts, as_space, space_of}
 use Rattle.wm_graph.specs.Rules.{are_spaces, differ, keep_rules}
 use Rattle.wm_spec.specs.Records.{record_at}
@@ -12,7 +13,7 @@ use Rattle.wm_spec.specs.declared.record.stored.Stored.{Stored}
 use Rattle.wm_state.specs.Firsts.{first_recorded, least_below}
 use Rattle.wm_state.specs.Standing.{space_after}
 use Rattle.wm_state.proofs.Apart.{ruled}
-use Rattle.wm_state.proofs.Tests.{bool_apart, both, found_fails, not_true}
+use Rattle.wm_state.proofs.Mapped.{found-fails}
 use Rattle.wm_image.proofs.Coming.{spaces_over}
 use Rattle.wm_index.specs.Kinds.{kind_at, passing}
 use Rattle.wm_image.specs.Shown.{least, lesser}
@@ -29,15 +30,12 @@ lesser-assoc (Some r) None c = refl
 lesser-assoc (Some r) (Some q) None = lesser-none (lesser (Some r) (Some q))
 lesser-assoc (Some r) (Some q) (Some s) = by_tests (nat_le r.number q.number) (nat_le q.number s.number) (nat_le r.number s.number) refl refl refl
   where
-    chain : (a b c : ℕ) → nat_le a b ≡ true → nat_le b c ≡ true → nat_le a c ≡ true
-    chain a b c e f = grind (arith, e, f)
-
     apart : (a b c : ℕ) → nat_le a b ≡ false → nat_le b c ≡ false → nat_le a c ≡ false
     apart a b c e f = grind (arith, e, f)
 
     by_tests : (a b c : Bool) → nat_le r.number q.number ≡ a → nat_le q.number s.number ≡ b → nat_le r.number s.number ≡ c
         → lesser (cond a (Some r) (Some q)) (Some s) ≡ lesser (Some r) (cond b (Some q) (Some s))
-    by_tests true true c e f g = rw (e, chain r.number q.number s.number e f) refl
+    by_tests true true c e f g = rw (e, nat_le-trans r.number q.number s.number e f) refl
     by_tests true false c e f g = refl
     by_tests false true c e f g = rw (e, f) refl
     by_tests false false c e f g = rw (f, apart r.number q.number s.number e f) refl
@@ -82,7 +80,7 @@ least_is p [] apart = λ n. refl
 least_is p (r ∷ rs) apart = by_test (p r) refl (least p rs) (least_is p rs two.1)
   where
     two : (not (list_any (λ (q : Space). r.number == q.number) rs) ≡ true) × (differ (λ (s q : Space). s.number == q.number) rs ≡ true)
-    two = both (not (list_any (λ (q : Space). r.number == q.number) rs)) (differ (λ (s q : Space). s.number == q.number) rs) apart
+    two = and_parts (not (list_any (λ (q : Space). r.number == q.number) rs)) (differ (λ (s q : Space). s.number == q.number) rs) apart
 
     here : (n : ℕ) → (r.number == n) ≡ true → passes p (r ∷ rs) n ≡ p r
     here n same = rw same refl
@@ -94,7 +92,7 @@ least_is p (r ∷ rs) apart = by_test (p r) refl (least p rs) (least_is p rs two
     first = rw (eq-eqb r.number r.number refl) refl
 
     later : (q : Space) → space_of rs q.number ≡ Some q → space_of (r ∷ rs) q.number ≡ Some q
-    later q found = rw (found_fails (λ (s : Space). s.number == q.number) (λ (s : Space). r.number == s.number) rs q found (not_true (list_any (λ (s : Space). r.number == s.number) rs) two.0)) found
+    later q found = rw (found-fails (λ (s : Space). s.number == q.number) (λ (s : Space). r.number == s.number) rs q found (not-true (list_any (λ (s : Space). r.number == s.number) rs) two.0)) found
 
     by_test : (b : Bool) → p r ≡ b → (o : Option Space) → IsLeast p rs o → IsLeast p (r ∷ rs) (lesser (then_some b r) o)
     by_test false e None none = λ n. by_number n (r.number == n) refl
@@ -105,13 +103,13 @@ least_is p (r ∷ rs) apart = by_test (p r) refl (least p rs) (least_is p rs two
     by_test false e (Some q) is = (later q is.0, is.1, λ n pass. by_number n (r.number == n) refl pass)
       where
         by_number : (n : ℕ) (c : Bool) → (r.number == n) ≡ c → passes p (r ∷ rs) n ≡ true → q.number ≤ n
-        by_number n true same pass = absurd (bool_apart (sym pass ∙ here n same ∙ e))
+        by_number n true same pass = absurd (true≢false (sym pass ∙ here n same ∙ e))
         by_number n false other pass = is.2 n (sym (away n other) ∙ pass)
     by_test true e None none = (first, e, λ n pass. by_number n (r.number == n) refl pass)
       where
         by_number : (n : ℕ) (c : Bool) → (r.number == n) ≡ c → passes p (r ∷ rs) n ≡ true → r.number ≤ n
         by_number n true same pass = let is = eqb-true r.number n same in omega (arith, is)
-        by_number n false other pass = absurd (bool_apart (sym pass ∙ away n other ∙ none n))
+        by_number n false other pass = absurd (true≢false (sym pass ∙ away n other ∙ none n))
     by_test true e (Some q) is = by_order (nat_le r.number q.number) refl
       where
         at_most : (a b n : ℕ) → nat_le a b ≡ true → b ≤ n → a ≤ n
@@ -168,4 +166,4 @@ pub least_told : (p : Parts) → keep_rules p ≡ true → (test : Space → Boo
 least_told p rules test = least_first test p.spaces (least test p.spaces) (least_is test p.spaces (numbers (ruled p rules).spaces))
   where
     numbers : are_spaces p.spaces ≡ true → differ (λ (r q : Space). r.number == q.number) p.spaces ≡ true
-    numbers e = (both (differ (λ (r q : Space). r.number == q.number) p.spaces) _ (both (nat_le (length p.spaces) 1024 && is_some (space_of p.spaces 0)) _ e).1).0
+    numbers e = (and_parts (differ (λ (r q : Space). r.number == q.number) p.spaces) _ (and_parts (nat_le (length p.spaces) 1024 && is_some (space_of p.spaces 0)) _ e).1).0

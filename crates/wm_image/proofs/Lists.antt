@@ -9,6 +9,7 @@ use Rattle.wm_spec.specs.Records.{record_at}
 use Rattle.wm_spec.specs.declared.record.Record.{Record}
 use Rattle.wm_spec.specs.declared.record.stored.Stored.{Stored}
 use Rattle.wm_state.specs.ById.{AllAbove, Ascend, perhaps_before, set_at}
+use Rattle.wm_state.proofs.ById.{AllAbove-less}
 use Rattle.wm_index.proofs.IdLists.{greater_is, less_is}
 use Rattle.wm_index.proofs.Lists.{ids_of, record_at-none, record_at-here, record_at-away}
 use Rattle.wm_index.proofs.Lists as index
@@ -17,10 +18,6 @@ use Rattle.wm_index.specs.Sought.{ids_with, placed, without, ids_less, ids_more}
 pub record_at-above : (id : ℕ) (ss : List Stored) → AllAbove id ss → record_at ss id ≡ None
 record_at-above id [] above = record_at-none id
 record_at-above id (s ∷ ss) above = record_at-away s ss id (λ e. absurd (let lt = above.0 in omega arith)) ∙ record_at-above id ss above.1
-
-pub AllAbove-less : (m n : ℕ) (ss : List Stored) → m < n → AllAbove n ss → AllAbove m ss
-AllAbove-less m n [] lt above = tt
-AllAbove-less m n (s ∷ ss) lt above = (omega (arith, lt, above.0), AllAbove-less m n ss lt above.1)
 
 -- ---- ids above one
 

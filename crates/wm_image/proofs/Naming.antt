@@ -4,6 +4,7 @@ use Rattle.std.proofs.lemmas.Slice.Eq.{bytes_eq-Decides}
 use Rattle.std.specs.List.{find, list_any, list_all}
 use Rattle.std.specs.Option.{option_copied}
 use Rattle.std.specs.Str.{bytes_eq}
+use Rattle.std.proofs.lemmas.Bool.{and_parts, or_parts, not-true}
 use Rattle.wm_catalog.specs.Catalog.{same_name}
 use Rattle.wm_chunks.specs.Numbers.{Numbers}
 use Rattle.wm_graph.specs.Parts.{Parts, parts_of, as_table}
@@ -15,7 +16,6 @@ use Rattle.wm_state.specs.Standing.{by_number, place_table}
 use Rattle.wm_index.proofs.Finding.{Tests}
 use Rattle.wm_index.proofs.Firsts.{sought_kind, filter_all}
 use Rattle.wm_state.proofs.Apart.{ruled}
-use Rattle.wm_state.proofs.Tests.{both, either_false, not_true}
 use Rattle.wm_index.specs.Indexed.{IsIndexed, ids_at, listed}
 use Rattle.wm_index.specs.Kinds.{kind_at}
 use Rattle.wm_index.specs.Sought.{Tables, is_sought}
@@ -61,24 +61,24 @@ has_name name t = bytes_eq name t.name
 no_other : (name : List ℕ) (t : Table) (us : List Table) → list_any (same_name t) us ≡ false → name ≡ t.name → find (has_name name) us ≡ None
 no_other name t [] none e = refl
 no_other name t (u ∷ us) none e =
-    let two = either_false (bytes_eq t.name u.name) (list_any (same_name t) us) none in
+    let two = or_parts (bytes_eq t.name u.name) (list_any (same_name t) us) none in
     ap (λ b. cond b (Some u) (find (has_name name) us)) (ap (λ n. bytes_eq n u.name) e ∙ two.0) ∙ no_other name t us two.1 e
 
 pub find-by_number : (name : List ℕ) (ts : List Table) → differ same_name ts ≡ true → find (has_name name) (by_number ts) ≡ find (has_name name) ts
 find-by_number name [] apart = refl
 find-by_number name (t ∷ ts) apart =
-    let two = both (not (list_any (same_name t) ts)) (differ same_name ts) apart in
+    let two = and_parts (not (list_any (same_name t) ts)) (differ same_name ts) apart in
     find-placed (has_name name) t (by_number ts)
-    (λ pass. find-by_number name ts two.1 ∙ no_other name t ts (not_true (list_any (same_name t) ts) two.0) ((bytes_eq-Decides name t.name).0 pass))
+    (λ pass. find-by_number name ts two.1 ∙ no_other name t ts (not-true (list_any (same_name t) ts) two.0) ((bytes_eq-Decides name t.name).0 pass))
     ∙ ap (cond (bytes_eq name t.name) (Some t)) (find-by_number name ts two.1)
 
 -- ---- the rules of tables
 
 pub names_differ : (p : Parts) → keep_rules p ≡ true → differ same_name p.tables ≡ true
 names_differ p kept =
-    let h = both (nat_le (length p.tables) 256) _ (ruled p kept).tables in
-    let g = both (differ (λ (t u : Table). t.number == u.number) p.tables) _ h.1 in
-    (both (differ same_name p.tables) (list_all is_table p.tables) g.1).0
+    let h = and_parts (nat_le (length p.tables) 256) _ (ruled p kept).tables in
+    let g = and_parts (differ (λ (t u : Table). t.number == u.number) p.tables) _ h.1 in
+    (and_parts (differ same_name p.tables) (list_all is_table p.tables) g.1).0
 
 -- ---- what an index tells
 

@@ -1,8 +1,9 @@
 -- Versions, the newest first.
-use Rattle.std.proofs.Common.{◌≡◌, ◌≢◌, ◌<◌, ◌≤◌, ℕ, Bool, true, false, cond, not, ◌&&◌, ◌||◌, eqb, ◌==◌, max, List, [], ◌∷◌, Option, Some, None, refl, sym, ap, ◌∙◌, subst, arith, ◌⊎◌, inl, inr}
-use Rattle.std.proofs.lemmas.Bool.{cases_lt, cases_eq, eq-eqb, ne_eqb}
+use Rattle.std.proofs.Common.{◌≡◌, ◌≢◌, ◌<◌, ◌≤◌, ℕ, Bool, true, false, cond, not, eqb, ◌==◌, max, List, [], ◌∷◌, Option, Some, None, refl, sym, ap, ◌∙◌, subst, arith, ◌⊎◌, inl, inr}
+use Rattle.std.proofs.lemmas.Bool.{cases_lt, cases_eq, eq-eqb, and_parts, not-true, or_parts}
 use Rattle.std.specs.List.{filter, list_any}
 use Rattle.std.specs.Option.{IsSome, option_map}
+use Rattle.wm_base.proofs.Plain.{eqb-turned, none_some}
 use Rattle.wm_graph.specs.Parts.{version_of}
 use Rattle.wm_graph.specs.Rules.{differ}
 use Rattle.wm_spec.specs.declared.record.version.Version.{Version}
@@ -107,11 +108,8 @@ Descends (x ∷ xs) = AllBelow x.number xs × Descends xs
 apart : (y : Node) (ys : List Node) (n : ℕ) → version_in (y ∷ ys) n ≡ None → (y.number ≢ n) × (version_in ys n ≡ None)
 apart y ys n none = by_number (cases_eq y.number n)
   where
-    none_some : (o : Option Node) → o ≡ None → o ≡ Some y → ⊥
-    none_some o e f = cc
-
     by_number : (y.number ≡ n) ⊎ (y.number ≢ n) → (y.number ≢ n) × (version_in ys n ≡ None)
-    by_number (inl here) = absurd (none_some (version_in (y ∷ ys) n) none (ap (λ b. cond b (Some y) (version_in ys n)) (eq-eqb _ _ here)))
+    by_number (inl here) = absurd (none_some (version_in (y ∷ ys) n) y none (ap (λ b. cond b (Some y) (version_in ys n)) (eq-eqb _ _ here)))
     by_number (inr away) = (away, sym (version_in-away y ys n away) ∙ none)
 
 Descends-grow : (x : Node) (xs : List Node) → version_in xs x.number ≡ None → Descends xs → Descends (grow x xs)
@@ -122,18 +120,6 @@ Descends-grow x (y ∷ ys) fresh falls = by_place (cases_lt y.number x.number) (
     by_place (inl less) other rest = rw (grow-front x y ys less) ((less, AllBelow-more y.number x.number ys (omega (arith, less)) falls.0), falls)
     by_place (inr more) other rest = rw (grow-later x y ys more) (AllBelow-grow x ys y.number (omega (arith, more, other)) falls.0, rest)
 
-pub both : (a b : Bool) → (a && b) ≡ true → (a ≡ true) × (b ≡ true)
-both true b e = (refl, e)
-both false b e = cc
-
-not_true : (a : Bool) → not a ≡ true → a ≡ false
-not_true true e = cc
-not_true false e = refl
-
-either_false : (a b : Bool) → (a || b) ≡ false → (a ≡ false) × (b ≡ false)
-either_false true b e = cc
-either_false false b e = (refl, e)
-
 abbrev pub same_number : Version → Version → Bool
 same_number v w = v.number == w.number
 
@@ -141,18 +127,8 @@ same_number v w = v.number == w.number
 fresh_of : (v : Version) (vs : List Version) → list_any (same_number v) vs ≡ false → version_of vs v.number ≡ None
 fresh_of v [] none = refl
 fresh_of v (w ∷ ws) none =
-    let two = either_false (v.number == w.number) (list_any (same_number v) ws) none in
-    ap (λ b. cond b (Some w) (version_of ws v.number)) (flipped v.number w.number two.0) ∙ fresh_of v ws two.1
-  where
-    flipped : (m n : ℕ) → (m == n) ≡ false → (n == m) ≡ false
-    flipped m n e = by_number (cases_eq n m)
-      where
-        true_false : true ≡ false → ⊥
-        true_false h = cc
-
-        by_number : (n ≡ m) ⊎ (n ≢ m) → (n == m) ≡ false
-        by_number (inl same) = absurd (true_false (sym (eq-eqb m n (sym same)) ∙ e))
-        by_number (inr other) = ne_eqb n m other
+    let two = or_parts (v.number == w.number) (list_any (same_number v) ws) none in
+    ap (λ b. cond b (Some w) (version_of ws v.number)) (eqb-turned v.number w.number two.0) ∙ fresh_of v ws two.1
 
 map-cond : (b : Bool) (v : Version) (o : Option Version) → option_map node_of (cond b (Some v) o) ≡ cond b (Some (node_of v)) (option_map node_of o)
 map-cond true v o = refl
@@ -162,18 +138,18 @@ map-cond false v o = refl
 pub version_in-newest : (vs : List Version) → differ same_number vs ≡ true → (n : ℕ) → version_in (newest_first vs) n ≡ option_map node_of (version_of vs n)
 version_in-newest [] apart n = refl
 version_in-newest (v ∷ vs) apart n =
-    let two = both (not (list_any (same_number v) vs)) (differ same_number vs) apart in
+    let two = and_parts (not (list_any (same_number v) vs)) (differ same_number vs) apart in
     version_in-grow (node_of v) (newest_first vs) n
-    (version_in-newest vs two.1 v.number ∙ ap (option_map node_of) (fresh_of v vs (not_true (list_any (same_number v) vs) two.0)))
+    (version_in-newest vs two.1 v.number ∙ ap (option_map node_of) (fresh_of v vs (not-true (list_any (same_number v) vs) two.0)))
     ∙ ap (cond (eqb v.number n) (Some (node_of v))) (version_in-newest vs two.1 n)
     ∙ sym (map-cond (eqb v.number n) v (version_of vs n))
 
 pub Descends-newest : (vs : List Version) → differ same_number vs ≡ true → Descends (newest_first vs)
 Descends-newest [] apart = tt
 Descends-newest (v ∷ vs) apart =
-    let two = both (not (list_any (same_number v) vs)) (differ same_number vs) apart in
+    let two = and_parts (not (list_any (same_number v) vs)) (differ same_number vs) apart in
     Descends-grow (node_of v) (newest_first vs)
-    (version_in-newest vs two.1 v.number ∙ ap (option_map node_of) (fresh_of v vs (not_true (list_any (same_number v) vs) two.0)))
+    (version_in-newest vs two.1 v.number ∙ ap (option_map node_of) (fresh_of v vs (not-true (list_any (same_number v) vs) two.0)))
     (Descends-newest vs two.1)
 
 -- ---- the rules of versions

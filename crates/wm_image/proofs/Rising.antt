@@ -1,10 +1,11 @@
 -- Versions that rise, gone through from the last.
-use Rattle.std.proofs.Common.{◌≡◌, ℕ, zero, suc, ◌+◌, ◌<◌, ◌≤◌, nat_le, length, get_or, take, Bool, true, false, cond, List, [], ◌∷◌, ◌++◌, refl, sym, ap, ◌∙◌, arith}
+use Rattle.std.proofs.Common.{◌≡◌, ℕ, zero, suc, ◌+◌, ◌<◌, ◌≤◌, nat_le, length, take, Bool, true, false, cond, List, [], ◌∷◌, ◌++◌, refl, sym, ap, ◌∙◌, arith}
 use Rattle.std.specs.List.{AllByRecursion, filter}
 use Rattle.std.specs.List.Sorted.{IsNonDecreasingBy, IsPartitionPoint}
 use Rattle.wm_image.specs.Shown.{up_to}
 use Rattle.wm_index.specs.Versioned.{AreSpanned, Encloses, IsSpanned, VersionsFrom, Widens}
 use Rattle.wm_index.specs.declared.versioned.Versioned.{Versioned}
+use Rattle.wm_index.proofs.Placing.{from_at, from_less}
 use Rattle.wm_spec.specs.declared.record.stored.Stored.{Stored}
 
 -- ---- the last, and those before
@@ -45,17 +46,13 @@ all_kept P p (e ∷ es) all = by_test (p e) (all_kept P p es all.1)
     by_test true rest = (all.0, rest)
     by_test false rest = rest
 
-from_lower : (b c : ℕ) (es : List Versioned) → b ≤ c → VersionsFrom c es → VersionsFrom b es
-from_lower b c [] low up = tt
-from_lower b c (e ∷ es) low up = let first = up.0 in (omega (arith, low, first), up.1)
-
 pub up_to_rises : (b top : ℕ) (es : List Versioned) → VersionsFrom b es → VersionsFrom b (up_to top es)
 up_to_rises b top [] up = tt
 up_to_rises b top (e ∷ es) up = by_test (nat_le e.version top) (up_to_rises (e.version + 1) top es up.1)
   where
     by_test : (t : Bool) → VersionsFrom (e.version + 1) (up_to top es) → VersionsFrom b (cond t (e ∷ up_to top es) (up_to top es))
     by_test true rest = (up.0, rest)
-    by_test false rest = let first = up.0 in from_lower b (e.version + 1) (up_to top es) (omega (arith, first)) rest
+    by_test false rest = let first = up.0 in from_less b (e.version + 1) (up_to top es) (omega (arith, first)) rest
 
 pub up_to_widens : (top : ℕ) (es : List Versioned) → Widens es → Widens (up_to top es)
 up_to_widens top [] wide = tt
@@ -75,19 +72,11 @@ up_to_spanned ss top (e ∷ es) all = by_test (nat_le e.version top) (up_to_span
 
 -- ---- found by halving
 
-above_at : (b : ℕ) (es : List Versioned) (i : ℕ) (d : Versioned) → VersionsFrom b es → i < length es → b ≤ (get_or es i d).version
-above_at b [] i d up within = absurd (omega (arith, within))
-above_at b (e ∷ es) zero d up within = up.0
-above_at b (e ∷ es) (suc i) d up within =
-    let more = above_at (e.version + 1) es i d up.1 (omega (arith, within)) in
-    let first = up.0 in
-    omega (arith, more, first)
-
 -- a later version is no older
 pub in_order : (b : ℕ) (es : List Versioned) → VersionsFrom b es → IsNonDecreasingBy (λ (e : Versioned). e.version) es
 in_order b [] up i j d le within = absurd (omega (arith, within))
 in_order b (e ∷ es) up zero zero d le within = omega arith
-in_order b (e ∷ es) up zero (suc j) d le within = let more = above_at (e.version + 1) es j d up.1 (omega (arith, within)) in omega (arith, more)
+in_order b (e ∷ es) up zero (suc j) d le within = let more = from_at (e.version + 1) es j d up.1 (omega (arith, within)) in omega (arith, more)
 in_order b (e ∷ es) up (suc i) zero d le within = absurd (omega (arith, le))
 in_order b (e ∷ es) up (suc i) (suc j) d le within = in_order (e.version + 1) es up.1 i j d (omega (arith, le)) (omega (arith, within))
 

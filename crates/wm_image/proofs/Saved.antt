@@ -1,12 +1,13 @@
 -- Savepoints found by name, and the making that comes next.
 use Rattle.std.proofs.Common.{◌≡◌, ℕ, ◌<◌, ◌≤◌, ◌+◌, ◌^◌, ◌==◌, nat_lt, nat_le, Bool, true, false, cond, not, ◌&&◌, ◌||◌, List, [], ◌∷◌, length, Option, Some, None, refl, sym, ap, ◌∙◌, subst, arith}
-use Rattle.std.proofs.lemmas.Bool.{eq-eqb, eqb-true}
+use Rattle.std.proofs.lemmas.Bool.{eq-eqb, eqb-true, and_parts, false≢true, not-true, or_parts, true≢false}
 use Rattle.std.proofs.lemmas.Slice.Eq.{bytes_eq-Decides}
 use Rattle.std.specs.BTreeMap.{IsOrdered}
 use Rattle.std.specs.List.{count_by, filter, find, list_all, list_any}
 use Rattle.std.specs.Option.{option_map_or}
 use Rattle.std.specs.Ordering.{nat_cmp}
 use Rattle.std.specs.Str.{bytes_eq}
+use Rattle.wm_base.proofs.Plain.{none_some}
 use Rattle.wm_base.specs.declared.instant.TheConstants.{END}
 use Rattle.wm_chunks.specs.Numbers.{Numbers}
 use Rattle.wm_graph.specs.Parts.{Parts, parts_of, as_savepoint, space_of, version_of}
@@ -18,7 +19,7 @@ use Rattle.wm_spec.specs.declared.record.savepoint.Savepoint.{Savepoint}
 use Rattle.wm_spec.specs.declared.record.stored.Stored.{Stored}
 use Rattle.wm_state.specs.Standing.{by_making, place_making, saved_as, saved_in}
 use Rattle.wm_state.proofs.Apart.{ruled}
-use Rattle.wm_state.proofs.Tests.{both, either_false, not_true}
+use Rattle.wm_state.proofs.SavedAs.{names-apart}
 use Rattle.wm_index.proofs.Finding.{Tests}
 use Rattle.wm_index.proofs.Firsts.{sought_kind, any_sought, count_sought, find-filter}
 use Rattle.wm_index.proofs.Lasts.{LastOf, has_ids, last-same, last_told}
@@ -53,15 +54,12 @@ find-placed : (p : Savepoint → Bool) (x : Savepoint) (ys : List Savepoint) →
 find-placed p x [] alone = refl
 find-placed p x (y ∷ ys) alone = by_place (nat_lt y.making x.making) (p y) refl (find-placed p x ys)
   where
-    none_some : (o : Option Savepoint) → o ≡ None → o ≡ Some y → ⊥
-    none_some o e f = cc
-
     behind : p y ≡ false → p x ≡ true → find p ys ≡ None
     behind away pass = sym (ap (λ b. cond b (Some y) (find p ys)) away) ∙ alone pass
 
     -- of two savepoints one at most passes
     swapped : (a b : Bool) → p x ≡ a → p y ≡ b → cond b (Some y) (cond a (Some x) (find p ys)) ≡ cond a (Some x) (cond b (Some y) (find p ys))
-    swapped true true e f = absurd (none_some (find p (y ∷ ys)) (alone e) (ap (λ b. cond b (Some y) (find p ys)) f))
+    swapped true true e f = absurd (none_some (find p (y ∷ ys)) y (alone e) (ap (λ b. cond b (Some y) (find p ys)) f))
     swapped true false e f = refl
     swapped false b e f = refl
 
@@ -83,15 +81,15 @@ same_name x y = bytes_eq x.name y.name
 no_other : (name : List ℕ) (x : Savepoint) (ys : List Savepoint) → list_any (same_name x) ys ≡ false → name ≡ x.name → find (has_name name) ys ≡ None
 no_other name x [] none e = refl
 no_other name x (y ∷ ys) none e =
-    let two = either_false (bytes_eq x.name y.name) (list_any (same_name x) ys) none in
+    let two = or_parts (bytes_eq x.name y.name) (list_any (same_name x) ys) none in
     ap (λ b. cond b (Some y) (find (has_name name) ys)) (ap (λ n. bytes_eq n y.name) e ∙ two.0) ∙ no_other name x ys two.1 e
 
 find-by_making : (name : List ℕ) (xs : List Savepoint) → differ same_name xs ≡ true → find (has_name name) (by_making xs) ≡ find (has_name name) xs
 find-by_making name [] apart = refl
 find-by_making name (x ∷ xs) apart =
-    let two = both (not (list_any (same_name x) xs)) (differ same_name xs) apart in
+    let two = and_parts (not (list_any (same_name x) xs)) (differ same_name xs) apart in
     find-placed (has_name name) x (by_making xs)
-    (λ pass. find-by_making name xs two.1 ∙ no_other name x xs (not_true (list_any (same_name x) xs) two.0) ((bytes_eq-Decides name x.name).0 pass))
+    (λ pass. find-by_making name xs two.1 ∙ no_other name x xs (not-true (list_any (same_name x) xs) two.0) ((bytes_eq-Decides name x.name).0 pass))
     ∙ ap (cond (bytes_eq name x.name) (Some x)) (find-by_making name xs two.1)
 
 -- ---- the names in one workspace
@@ -101,7 +99,7 @@ no_same n x here [] none = refl
 no_same n x here (y ∷ ys) none = by_space (y.space == n) refl (no_same n x here ys two.1)
   where
     two : (same_savepoint x y ≡ false) × (list_any (same_savepoint x) ys ≡ false)
-    two = either_false (same_savepoint x y) (list_any (same_savepoint x) ys) none
+    two = or_parts (same_savepoint x y) (list_any (same_savepoint x) ys) none
 
     by_space : (b : Bool) → (y.space == n) ≡ b → list_any (same_name x) (filter (λ (z : Savepoint). z.space == n) ys) ≡ false
         → list_any (same_name x) (cond b (y ∷ filter (λ (z : Savepoint). z.space == n) ys) (filter (λ (z : Savepoint). z.space == n) ys)) ≡ false
@@ -110,19 +108,6 @@ no_same n x here (y ∷ ys) none = by_space (y.space == n) refl (no_same n x her
         ap (λ b. b || list_any (same_name x) (filter (λ (z : Savepoint). z.space == n) ys)) apart ∙ rest
     by_space false there rest = rest
 
-names_apart : (n : ℕ) (xs : List Savepoint) → differ same_savepoint xs ≡ true → differ same_name (filter (λ (x : Savepoint). x.space == n) xs) ≡ true
-names_apart n [] apart = refl
-names_apart n (x ∷ xs) apart = by_space (x.space == n) refl (names_apart n xs two.1)
-  where
-    two : (not (list_any (same_savepoint x) xs) ≡ true) × (differ same_savepoint xs ≡ true)
-    two = both (not (list_any (same_savepoint x) xs)) (differ same_savepoint xs) apart
-
-    by_space : (b : Bool) → (x.space == n) ≡ b → differ same_name (filter (λ (z : Savepoint). z.space == n) xs) ≡ true
-        → differ same_name (cond b (x ∷ filter (λ (z : Savepoint). z.space == n) xs) (filter (λ (z : Savepoint). z.space == n) xs)) ≡ true
-    by_space true here rest =
-        ap (λ b. not b && differ same_name (filter (λ (z : Savepoint). z.space == n) xs)) (no_same n x (eqb-true x.space n here) xs (not_true (list_any (same_savepoint x) xs) two.0)) ∙ rest
-    by_space false here rest = rest
-
 -- what the rules tell of savepoints
 record RuledSaved (p : Parts) (work : ℕ) : Type 0 where
   names : differ same_savepoint p.savepoints ≡ true
@@ -130,9 +115,9 @@ record RuledSaved (p : Parts) (work : ℕ) : Type 0 where
 
 ruled_saved : (p : Parts) (work : ℕ) → are_savepoints p work ≡ true → RuledSaved p work
 ruled_saved p work e =
-    let h = both (differ (λ (x y : Savepoint). x.making == y.making) p.savepoints) _ e in
-    let g = both (differ same_savepoint p.savepoints) _ h.1 in
-    let k = both (list_all (has_few p.savepoints) p.spaces) (list_all (is_savepoint (space_of p.spaces) (version_of p.versions) work) p.savepoints) g.1 in
+    let h = and_parts (differ (λ (x y : Savepoint). x.making == y.making) p.savepoints) _ e in
+    let g = and_parts (differ same_savepoint p.savepoints) _ h.1 in
+    let k = and_parts (list_all (has_few p.savepoints) p.spaces) (list_all (is_savepoint (space_of p.spaces) (version_of p.versions) work) p.savepoints) g.1 in
     record { names = g.0; each = k.1 }
 
 -- ---- what an index tells
@@ -144,7 +129,7 @@ named_told kept x is rules n name =
     let r = ruled (parts_of (listed kept.entries)) rules in
     let s = ruled_saved (parts_of (listed kept.entries)) r.counters.work r.savepoints in
     ap (find (has_name name)) (sought_kind as_savepoint (λ (y : Savepoint). y.space == n) (SavepointsOf n) (of_test n) kept x is)
-    ∙ sym (find-by_making name (filter (λ (y : Savepoint). y.space == n) (parts_of (listed kept.entries)).savepoints) (names_apart n (parts_of (listed kept.entries)).savepoints s.names))
+    ∙ sym (find-by_making name (filter (λ (y : Savepoint). y.space == n) (parts_of (listed kept.entries)).savepoints) (names-apart n (parts_of (listed kept.entries)).savepoints s.names))
 
 pub saved_told : (kept : Numbers Record) (x : Index) → IsIndexed kept x → (n making : ℕ)
     → find (λ (y : Savepoint). y.space == n) (kind_at as_savepoint (listed kept.entries) (ids_at x (SavepointAt making))) ≡ saved_as (parts_of (listed kept.entries)) n making
@@ -194,20 +179,20 @@ made_most spaces versions work k [] each some = cc
 made_most spaces versions work k (y ∷ ys) each some = by_making (y.making == k) refl some (made_most spaces versions work k ys two.1)
   where
     two : (is_savepoint spaces versions work y ≡ true) × (list_all (is_savepoint spaces versions work) ys ≡ true)
-    two = both (is_savepoint spaces versions work y) (list_all (is_savepoint spaces versions work) ys) each
+    two = and_parts (is_savepoint spaces versions work y) (list_all (is_savepoint spaces versions work) ys) each
 
     by_making : (b : Bool) → (y.making == k) ≡ b → (b || list_any (λ (z : Savepoint). z.making == k) ys) ≡ true → (list_any (λ (z : Savepoint). z.making == k) ys ≡ true → nat_le k (work + 2) ≡ true)
         → nat_le k (work + 2) ≡ true
     by_making true same h rest =
-        let one = both (is_short y.name && nat_le y.making (work + 2)) (option_map_or (is_saved_in versions y) (spaces y.space) false) two.0 in
-        ap (λ m. nat_le m (work + 2)) (sym (eqb-true y.making k same)) ∙ (both (is_short y.name) (nat_le y.making (work + 2)) one.0).1
+        let one = and_parts (is_short y.name && nat_le y.making (work + 2)) (option_map_or (is_saved_in versions y) (spaces y.space) false) two.0 in
+        ap (λ m. nat_le m (work + 2)) (sym (eqb-true y.making k same)) ∙ (and_parts (is_short y.name) (nat_le y.making (work + 2)) one.0).1
     by_making false same h rest = rest h
 
 few_worked : (c : Counters) → are_counters c ≡ true → nat_le c.work (2 ^ 62) ≡ true
 few_worked c e = fifth (nat_le 1 c.limit && nat_le c.limit 1048576) (nat_le 1 c.next_stamp && nat_le c.next_stamp (c.limit + 1)) (nat_lt c.last_moment END) (nat_le c.work (2 ^ 62)) (nat_le c.next_version (c.work + 2)) e
   where
     fifth : (a b d f g : Bool) → ((a && b) && (d && (f && g))) ≡ true → f ≡ true
-    fifth a b d f g h = (both f g (both d (f && g) (both (a && b) (d && (f && g)) h).1).1).0
+    fifth a b d f g h = (and_parts f g (and_parts d (f && g) (and_parts (a && b) (d && (f && g)) h).1).1).0
 
 -- the making that comes next can be told
 pub next_fits : (p : Parts) → keep_rules p ≡ true → (o : Option ℕ) → LastOf (is_made p) o → after 1 o < 2 ^ 64
@@ -222,16 +207,10 @@ next_fits p rules (Some k) last =
 
 pub next_none : (p : Parts) (o : Option ℕ) → LastOf (is_made p) o → p.savepoints ≡ [] → after 1 o ≡ 1
 next_none p None last none = refl
-next_none p (Some k) last none = absurd (false_true (sym (ap (list_any (λ (y : Savepoint). y.making == k)) none) ∙ last.0))
-  where
-    false_true : false ≡ true → ⊥
-    false_true h = cc
+next_none p (Some k) last none = absurd (false≢true (sym (ap (list_any (λ (y : Savepoint). y.making == k)) none) ∙ last.0))
 
 pub next_some : (p : Parts) (o : Option ℕ) → LastOf (is_made p) o → (x : Savepoint) (xs : List Savepoint) → p.savepoints ≡ x ∷ xs → list_any (λ (y : Savepoint). (y.making + 1) == after 1 o) p.savepoints ≡ true
-next_some p None last x xs some = absurd (true_false (sym (ap (λ l. list_any (λ (y : Savepoint). y.making == x.making) l) some ∙ ap (λ b. b || list_any (λ (y : Savepoint). y.making == x.making) xs) (eq-eqb x.making x.making refl)) ∙ last x.making))
-  where
-    true_false : true ≡ false → ⊥
-    true_false h = cc
+next_some p None last x xs some = absurd (true≢false (sym (ap (λ l. list_any (λ (y : Savepoint). y.making == x.making) l) some ∙ ap (λ b. b || list_any (λ (y : Savepoint). y.making == x.making) xs) (eq-eqb x.making x.making refl)) ∙ last x.making))
 next_some p (Some k) last x xs some = one_more p.savepoints ∙ last.0
   where
     both_more : (m n : ℕ) → ((m + 1) == (n + 1)) ≡ (m == n)

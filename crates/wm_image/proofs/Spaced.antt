@@ -3,6 +3,8 @@ use Rattle.std.proofs.Common.{◌≡◌, ℕ, ◌<◌, ◌==◌, Bool, true, fal
 use Rattle.std.specs.BTreeMap.{IsOrdered}
 use Rattle.std.specs.List.{list_any}
 use Rattle.std.specs.Ordering.{nat_cmp}
+use Rattle.std.proofs.lemmas.Bool.{or_parts}
+use Rattle.wm_state.proofs.Mapped.{found-fails}
 use Rattle.wm_chunks.specs.Numbers.{Numbers}
 use Rattle.wm_graph.specs.Parts.{Parts, parts_of, as_savepoint, as_space, space_of}
 use Rattle.wm_spec.specs.declared.record.Record.TheVariants as records
@@ -12,7 +14,6 @@ use Rattle.wm_spec.specs.declared.record.space.Space.{Space}
 use Rattle.wm_spec.specs.declared.record.stored.Stored.{Stored}
 use Rattle.wm_state.specs.Effects.{IsFree}
 use Rattle.wm_state.proofs.Named.{saved_space, space_number}
-use Rattle.wm_state.proofs.Tests.{either_false, found_fails}
 use Rattle.wm_index.proofs.Finding.{Tests, space_test}
 use Rattle.wm_index.proofs.Firsts.{sought_kind, any_sought, count_sought, filter_all, count_all}
 use Rattle.wm_index.proofs.Lasts.{LastOf, has_ids, last-same, last_told}
@@ -121,12 +122,12 @@ free_by kept x is version saved rested births bases e f g h = rw (e, f, g, h) (f
 -- a version that no record of a savepoint and of a workspace names is free
 free_of : (p : Parts) (version : ℕ) → list_any (λ (x : Savepoint). x.version == version) p.savepoints ≡ false → list_any (rests_on version) p.savepoints ≡ false → list_any (names version) p.spaces ≡ false → IsFree p version
 free_of p version unsaved unrested unnamed = record {
-  kept = λ n making x found. found_fails (λ (x : Savepoint). (x.space == n) && (x.making == making)) (λ (x : Savepoint). x.version == version) p.savepoints x found unsaved;
+  kept = λ n making x found. found-fails (λ (x : Savepoint). (x.space == n) && (x.making == making)) (λ (x : Savepoint). x.version == version) p.savepoints x found unsaved;
   kept_bases = λ n making x some found.
       second (not (x.space == 0)) (x.base_version == version) (ap (λ k. not (k == 0)) (saved_space p n making x found) ∙ not_zero n some)
-      (found_fails (λ (y : Savepoint). (y.space == n) && (y.making == making)) (rests_on version) p.savepoints x found unrested);
-  births = λ n r some found. (either_false (r.birth_version == version) (r.base_version == version) (named n r some found)).0;
-  bases = λ n r some found. (either_false (r.birth_version == version) (r.base_version == version) (named n r some found)).1;
+      (found-fails (λ (y : Savepoint). (y.space == n) && (y.making == making)) (rests_on version) p.savepoints x found unrested);
+  births = λ n r some found. (or_parts (r.birth_version == version) (r.base_version == version) (named n r some found)).0;
+  bases = λ n r some found. (or_parts (r.birth_version == version) (r.base_version == version) (named n r some found)).1;
 }
   where
     not_zero : (m : ℕ) → 0 < m → not (m == 0) ≡ true
@@ -137,12 +138,12 @@ free_of p version unsaved unrested unnamed = record {
 
     named : (n : ℕ) (r : Space) → 0 < n → space_of p.spaces n ≡ Some r → ((r.birth_version == version) || (r.base_version == version)) ≡ false
     named n r some found = second (not (r.number == 0)) _ (ap (λ k. not (k == 0)) (space_number p n r found) ∙ not_zero n some)
-        (found_fails (λ (x : Space). x.number == n) (names version) p.spaces r found unnamed)
+        (found-fails (λ (x : Space). x.number == n) (names version) p.spaces r found unnamed)
 
 pub free_where : (p : Parts) (version : ℕ) → is_unnamed p version ≡ true → IsFree p version
 free_where p version e =
-    let two = either_false (list_any (λ (x : Savepoint). x.version == version) p.savepoints) (list_any (rests_on version) p.savepoints || list_any (names version) p.spaces) (off _ e) in
-    let more = either_false (list_any (rests_on version) p.savepoints) (list_any (names version) p.spaces) two.1 in
+    let two = or_parts (list_any (λ (x : Savepoint). x.version == version) p.savepoints) (list_any (rests_on version) p.savepoints || list_any (names version) p.spaces) (off _ e) in
+    let more = or_parts (list_any (rests_on version) p.savepoints) (list_any (names version) p.spaces) two.1 in
     free_of p version two.0 more.0 more.1
   where
     off : (b : Bool) → not b ≡ true → b ≡ false

@@ -1,16 +1,16 @@
 -- The stretches of the pieces of a key.
-use Rattle.std.proofs.Common.{◌≡◌, ℕ, ◌<◌, ◌≤◌, ◌==◌, ◌&&◌, ◌||◌, nat_lt, nat_le, Bool, true, false, not, if◌then◌else◌, List, [], ◌∷◌, Option, None, refl, sym, ap, ◌∙◌, arith}
-use Rattle.std.proofs.lemmas.Bool.{eq-eqb, eqb-true}
+use Rattle.std.proofs.Common.{◌≡◌, ℕ, ◌<◌, ◌≤◌, ◌==◌, ◌&&◌, nat_lt, nat_le, Bool, true, false, not, if◌then◌else◌, List, [], ◌∷◌, Option, None, refl, sym, ap, ◌∙◌, arith}
+use Rattle.std.proofs.lemmas.Bool.{eq-eqb, eqb-true, and_parts, not-true, true≢false}
 use Rattle.std.specs.Bool.{then_some}
 use Rattle.std.specs.Option.{option_or, option_and_then}
-use Rattle.wm_base.proofs.Plain.{option_or-none, option_or_assoc}
+use Rattle.wm_base.proofs.Plain.{option_or-none}
 use Rattle.wm_base.specs.Period.{covers}
 use Rattle.wm_period.specs.Pieces.{Between, held, held_at}
 use Rattle.wm_period.specs.declared.piece.Piece.{Piece}
 use Rattle.wm_period.proofs.Order.{held_at-early}
 use Rattle.wm_spec.specs.Stretches.{Stretch, value_at, IsApart, AreMaximal}
+use Rattle.wm_spec.proofs.Stretches.{merged}
 use Rattle.wm_state.specs.Listing.{standing}
-use Rattle.wm_state.proofs.Tests.{both, not_true, bool_apart}
 use Rattle.wm_image.specs.Standing.{goes_on}
 
 -- the stretch of one piece
@@ -45,9 +45,9 @@ pub record Meets (p q : Piece) : Type 0 where
 
 pub meets : (p q : Piece) (qs : List Piece) → goes_on p (q ∷ qs) ≡ true → Meets p q
 meets p q qs e =
-    let h = both (not q.gone) ((p.period.till == q.period.from) && (p.stamp.number == q.stamp.number)) e in
-    let g = both (p.period.till == q.period.from) (p.stamp.number == q.stamp.number) h.1 in
-    record { stands = not_true q.gone h.0; meets = eqb-true _ _ g.0; stamp = eqb-true _ _ g.1 }
+    let h = and_parts (not q.gone) ((p.period.till == q.period.from) && (p.stamp.number == q.stamp.number)) e in
+    let g = and_parts (p.period.till == q.period.from) (p.stamp.number == q.stamp.number) h.1 in
+    record { stands = not-true q.gone h.0; meets = eqb-true _ _ g.0; stamp = eqb-true _ _ g.1 }
 
 begins : (p : Piece) (ps : List Piece) → p.gone ≡ false → Begins p.period.from p.stamp.number (spans (p ∷ ps))
 begins p [] stands = rw stands (refl, refl)
@@ -62,7 +62,7 @@ begins p (q ∷ qs) stands = rw stands (by_goes (goes_on p (q ∷ qs)) refl (beg
 
 -- where the row stands on, the stretch behind it begins there, with its stamp
 joins : (p : Piece) (ps : List Piece) → goes_on p ps ≡ true → Begins p.period.till p.stamp.number (spans ps)
-joins p [] e = absurd (bool_apart (sym e))
+joins p [] e = absurd (true≢false (sym e))
 joins p (q ∷ qs) e = let m = meets p q qs e in rw (m.meets, m.stamp) (begins q qs m.stands)
 
 -- ---- in order, and the longest
@@ -105,7 +105,7 @@ apart p (q ∷ qs) high ends order = by_gone q.gone refl
 
     other : (ss : List Stretch) → q.gone ≡ false → Begins q.period.from q.stamp.number ss → IsApart p.period.till p.stamp.number ss
     other [] stands begun = tt
-    other (s ∷ ss) stands begun = λ place stamp. bool_apart (sym (same_place stands (place ∙ begun.0) (stamp ∙ begun.1)) ∙ ends)
+    other (s ∷ ss) stands begun = λ place stamp. true≢false (sym (same_place stands (place ∙ begun.0) (stamp ∙ begun.1)) ∙ ends)
 
     by_gone : (b : Bool) → q.gone ≡ b → IsApart p.period.till p.stamp.number (spans (q ∷ qs))
     by_gone true gone = rw gone (later (spans qs) (behind q.period.till qs high order.2))
@@ -137,22 +137,6 @@ maximal low (p ∷ ps) high order = by_gone p.gone (maximal p.period.till ps hig
 abbrev has : ℕ → ℕ → ℕ → Bool
 has from till t = nat_le from t && nat_lt t till
 
--- a stretch that begins earlier holds what two hold that meet
-longer : (v : Option ℕ) (from middle till stamp t : ℕ) → from < middle → middle < till
-    → option_or v (then_some (has from till t) stamp) ≡ option_or (option_or v (then_some (has middle till t) stamp)) (then_some (has from middle t) stamp)
-longer v from middle till stamp t less more = sym
-    (option_or_assoc v (then_some (has middle till t) stamp) (then_some (has from middle t) stamp)
-    ∙ ap (option_or v) (either (has from middle t) (has middle till t) ∙ ap (λ b. then_some b stamp) (one from middle till t less more)))
-  where
-    either : (a b : Bool) → option_or (then_some b stamp) (then_some a stamp) ≡ then_some (a || b) stamp
-    either true true = refl
-    either true false = refl
-    either false true = refl
-    either false false = refl
-
-    one : (from middle till t : ℕ) → from < middle → middle < till → (has from middle t || has middle till t) ≡ has from till t
-    one from middle till t less more = grind (arith, less, more)
-
 value-earlier : (from till stamp t : ℕ) (ss : List Stretch) → from < till → AreMaximal till ss → Begins till stamp ss
     → value_at (earlier from ss) t ≡ option_or (value_at ss t) (then_some (has from till t) stamp)
 value-earlier from till stamp t [] less max begun = absurd begun
@@ -160,7 +144,7 @@ value-earlier from till stamp t (s ∷ ss) less max begun = same s.from s.stamp 
   where
     same : (f n : ℕ) → f ≡ till → n ≡ stamp → f < s.till
         → option_or (value_at ss t) (then_some (has from s.till t) n) ≡ option_or (option_or (value_at ss t) (then_some (has f s.till t) n)) (then_some (has from till t) stamp)
-    same f n is number more = rw (is, number) (longer (value_at ss t) from till s.till stamp t less (omega (arith, more, is)))
+    same f n is number more = rw (is, number) (merged (value_at ss t) from till s.till stamp t less (omega (arith, more, is)))
 
 pub value : (low : ℕ) (ps : List Piece) (high : ℕ) → Between low ps high → (t : ℕ) → value_at (spans ps) t ≡ option_and_then standing (held_at ps t)
 value low [] high order t = refl

@@ -1,6 +1,6 @@
 -- The path of a version by the rules, and what is held along it.
 use Rattle.std.proofs.Common.{◌≡◌, ◌≢◌, ◌<◌, ℕ, Bool, true, false, cond, ◌&&◌, ◌||◌, ◌==◌, nat_lt, nat_le, List, [], ◌∷◌, Option, Some, None, is_some, refl, sym, ap, ◌∙◌, subst, arith, ◌⊎◌, inl, inr}
-use Rattle.std.proofs.lemmas.Bool.{cases_eq, eq-eqb, ne_eqb, eqb-true}
+use Rattle.std.proofs.lemmas.Bool.{cases_eq, eq-eqb, ne_eqb, eqb-true, and_parts}
 use Rattle.std.specs.Bool.{then_some}
 use Rattle.std.specs.List.{filter, filter_map, list_all, cons_option}
 use Rattle.std.specs.Option.{IsSome, option_map, option_map_or, option_or, option_and_then}
@@ -25,7 +25,7 @@ use Rattle.wm_tree.specs.declared.version.Version.{Version as Node}
 use Rattle.wm_tree.proofs.Paths.{found, path_in-there, path_in-none}
 use Rattle.wm_index.proofs.Finding.{all_of, all_sought}
 use Rattle.wm_index.proofs.Using.{none_told}
-use Rattle.wm_image.proofs.Newest.{both, Stands, AllStand, AllStand-grow, tree_of, Descends-newest, version_in-newest}
+use Rattle.wm_image.proofs.Newest.{Stands, AllStand, AllStand-grow, tree_of, Descends-newest, version_in-newest}
 use Rattle.wm_index.specs.Indexed.{IsIndexed, ids_at, listed}
 use Rattle.wm_index.specs.Kinds.{kind_at}
 use Rattle.wm_image.specs.Shown.{AreKeysOf, has_at, held_here, first_held, along}
@@ -44,7 +44,7 @@ less_than m n e = grind (arith, e)
 -- a version by the rules
 stands-of : (all : List Node) (spaces : ℕ → Option Space) (versions : ℕ → Option Version) (next : ℕ) (v : Version) → ((n : ℕ) → version_in all n ≡ option_map node_of (versions n))
     → is_version spaces versions next v ≡ true → Stands all (node_of v)
-stands-of all spaces versions next v known rule = by_space (spaces v.space) (both (nat_lt v.number next) (option_map_or (λ (s : Space). cond (v.parent == 0) (v.number == 1) (stands_under versions v s)) (spaces v.space) false) rule).1
+stands-of all spaces versions next v known rule = by_space (spaces v.space) (and_parts (nat_lt v.number next) (option_map_or (λ (s : Space). cond (v.parent == 0) (v.number == 1) (stands_under versions v s)) (spaces v.space) false) rule).1
   where
     some_node : (o : Option Version) → is_some o ≡ true → is_some (option_map node_of o) ≡ true
     some_node None e = e
@@ -59,7 +59,7 @@ stands-of all spaces versions next v known rule = by_space (spaces v.space) (bot
         let one : v.number ≡ 1 = eqb-true v.number 1 (rw (eq-eqb _ _ root) at h) in
         record { named = omega (arith, one); older = λ some. absurd (some root); under = λ some. absurd (some root) }
     by_parent s (inr some) h =
-        let parts = both (nat_lt v.parent v.number) (is_version_of versions v.parent v.space || is_version_of versions v.parent s.parent) (rw (ne_eqb _ _ some) at h) in
+        let parts = and_parts (nat_lt v.parent v.number) (is_version_of versions v.parent v.space || is_version_of versions v.parent s.parent) (rw (ne_eqb _ _ some) at h) in
         let older : v.parent < v.number = less_than v.parent v.number parts.0 in
         record {
           named = omega (arith, older);
@@ -78,7 +78,7 @@ all_stand : (all : List Node) (spaces : ℕ → Option Space) (versions : ℕ �
     → (vs : List Version) → list_all (is_version spaces versions next) vs ≡ true → AllStand all (newest_first vs)
 all_stand all spaces versions next known [] rule = tt
 all_stand all spaces versions next known (v ∷ vs) rule =
-    let two = both (is_version spaces versions next v) (list_all (is_version spaces versions next) vs) rule in
+    let two = and_parts (is_version spaces versions next v) (list_all (is_version spaces versions next) vs) rule in
     AllStand-grow all (node_of v) (newest_first vs) (stands-of all spaces versions next v known two.0) (all_stand all spaces versions next known vs two.1)
 
 -- what the rules tell of versions

@@ -1,6 +1,6 @@
 -- The last key that has ids, and the number after it.
 use Rattle.std.proofs.Common.{◌≡◌, ◌≢◌, ℕ, ◌<◌, ◌≤◌, ◌+◌, ◌==◌, nat_lt, nat_le, Bool, true, false, cond, not, ◌&&◌, ◌||◌, List, [], ◌∷◌, ◌++◌, length, vec_len, Option, Some, None, refl, sym, ap, ◌∙◌, subst, arith}
-use Rattle.std.proofs.lemmas.Bool.{eq-eqb, ne_eqb, eqb-true, lt-ltb}
+use Rattle.std.proofs.lemmas.Bool.{eq-eqb, ne_eqb, eqb-true, lt-ltb, or_right, true≢false}
 use Rattle.std.proofs.lemmas.Map.Keys.{sorted_head, sorted_tail}
 use Rattle.std.specs.BTreeMap.{BTreeMap, IsOrdered, is_at}
 use Rattle.std.specs.Bool.{then_some}
@@ -12,6 +12,7 @@ use Rattle.std.specs.Ordering.{nat_cmp}
 use Rattle.std.specs.declared.alloc.Global.{Global}
 use Rattle.std.specs.declared.cmp.Ordering.TheVariants.{Less}
 use Rattle.std.specs.declared.vec.Vec.{Vec}
+use Rattle.wm_base.proofs.Plain.{option_or_assoc}
 use Rattle.wm_index.proofs.IdLists.{less_than}
 use Rattle.wm_index.proofs.TableLists.{is_at-number}
 use Rattle.wm_index.specs.Kinds.{after}
@@ -25,11 +26,7 @@ last_used-push [] e = or_none (then_some (not (is_nil e.1.items)) e.0)
     or_none : {A : Type 0} (o : Option A) → o ≡ option_or o None
     or_none None = refl
     or_none (Some x) = refl
-last_used-push {K} (d ∷ es) e = ap (λ o. option_or o (then_some (not (is_nil d.1.items)) d.0)) (last_used-push es e) ∙ or_assoc (then_some (not (is_nil e.1.items)) e.0) (last_used es) (then_some (not (is_nil d.1.items)) d.0)
-  where
-    or_assoc : (a b c : Option K) → option_or (option_or a b) c ≡ option_or a (option_or b c)
-    or_assoc None b c = refl
-    or_assoc (Some a) b c = refl
+last_used-push {K} (d ∷ es) e = ap (λ o. option_or o (then_some (not (is_nil d.1.items)) d.0)) (last_used-push es e) ∙ option_or_assoc (then_some (not (is_nil e.1.items)) e.0) (last_used es) (then_some (not (is_nil d.1.items)) d.0)
 
 nil_counted : (v : Vec ℕ Global) (b : Bool) → b ≡ (vec_len v == 0) → is_nil v.items ≡ b
 nil_counted v b is = by_items v.items refl
@@ -63,9 +60,6 @@ last-same f g same (Some k) last = (sym (same k) ∙ last.0, λ q e. last.1 q (s
 abbrev pub has_ids : List (ℕ × Vec ℕ Global) → ℕ → Bool
 has_ids es q = not (is_nil (ids_in nat_cmp es q))
 
-true_false : true ≡ false → ⊥
-true_false h = cc
-
 -- a key below all others has no ids
 none-below : (id : ℕ) (es : List (ℕ × Vec ℕ Global)) → AllByRecursion (λ k. nat_cmp id k ≡ Less) (keys_of es) → (q : ℕ) → q ≤ id → has_ids es q ≡ false
 none-below id [] above q le = refl
@@ -88,7 +82,7 @@ last_is (e ∷ es) sorted = by_rest (last_used es) (last_is es (sorted_tail nat_
 
     by_number : (q : ℕ) (b : Bool) → (q == e.0) ≡ b → has_ids (e ∷ es) q ≡ cond b (not (is_nil e.1.items)) (has_ids es q)
     by_number q true same = here q (eqb-true q e.0 same)
-    by_number q false apart = away q (λ same. true_false (sym (eq-eqb q e.0 same) ∙ apart))
+    by_number q false apart = away q (λ same. true≢false (sym (eq-eqb q e.0 same) ∙ apart))
 
     by_rest : (o : Option ℕ) → LastOf (has_ids es) o → LastOf (has_ids (e ∷ es)) (option_or o (then_some (not (is_nil e.1.items)) e.0))
     by_rest None none = by_first (not (is_nil e.1.items)) refl
@@ -98,7 +92,7 @@ last_is (e ∷ es) sorted = by_rest (last_used es) (last_is es (sorted_tail nat_
           where
             only : (q : ℕ) (b : Bool) → (q == e.0) ≡ b → has_ids (e ∷ es) q ≡ true → q ≤ e.0
             only q true same used = let is = eqb-true q e.0 same in omega (arith, is)
-            only q false apart used = absurd (true_false (sym used ∙ by_number q false apart ∙ none q))
+            only q false apart used = absurd (true≢false (sym used ∙ by_number q false apart ∙ none q))
         by_first false empty = λ q. each q (q == e.0) refl
           where
             each : (q : ℕ) (b : Bool) → (q == e.0) ≡ b → has_ids (e ∷ es) q ≡ false
@@ -110,7 +104,7 @@ last_is (e ∷ es) sorted = by_rest (last_used es) (last_is es (sorted_tail nat_
         above = by_test (nat_le k e.0) refl
           where
             by_test : (b : Bool) → nat_le k e.0 ≡ b → e.0 < k
-            by_test true le = absurd (true_false (sym last.0 ∙ none-below e.0 es head k (grind (arith, le))))
+            by_test true le = absurd (true≢false (sym last.0 ∙ none-below e.0 es head k (grind (arith, le))))
             by_test false more = grind (arith, more)
 
         there : (b : Bool) → (k == e.0) ≡ b → has_ids (e ∷ es) k ≡ true
@@ -131,14 +125,10 @@ all-below : {A : Type 0} (f : A → ℕ) (xs : List A) (n : ℕ) → ((q : ℕ) 
 all-below f [] n below = refl
 all-below f (x ∷ xs) n below =
     ap (λ b. b && list_all (λ y. nat_lt (f y) n) xs) (lt-ltb (f x) n (below (f x) (ap (λ b. b || list_any (λ y. f y == f x) xs) (eq-eqb (f x) (f x) refl))))
-    ∙ all-below f xs n (λ q some. below q (later (f x == q) (list_any (λ y. f y == q) xs) some))
-  where
-    later : (a b : Bool) → b ≡ true → (a || b) ≡ true
-    later true b e = refl
-    later false b e = e
+    ∙ all-below f xs n (λ q some. below q (or_right (f x == q) (list_any (λ y. f y == q) xs) some))
 
 pub all_before : {A : Type 0} (f : A → ℕ) (xs : List A) (none : ℕ) (o : Option ℕ) → LastOf (λ q. list_any (λ x. f x == q) xs) o → list_all (λ x. nat_lt (f x) (after none o)) xs ≡ true
-all_before f xs none None last = all-below f xs none (λ q some. absurd (true_false (sym some ∙ last q)))
+all_before f xs none None last = all-below f xs none (λ q some. absurd (true≢false (sym some ∙ last q)))
 all_before f xs none (Some k) last = all-below f xs (k + 1) (λ q some. let le = last.1 q some in omega (arith, le))
 
 pub last_there : (used : ℕ → Bool) (none : ℕ) (o : Option ℕ) → LastOf used o → (n : ℕ) → none ≡ 0 → after none o ≡ n + 1 → used n ≡ true

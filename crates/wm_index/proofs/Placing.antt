@@ -7,7 +7,7 @@ use Rattle.std.specs.List.Sorted.{IsBinarySearchResult, IsNonDecreasingBy, IsPar
 use Rattle.std.specs.Ordering.{match_ordering, nat_cmp, ordering_index}
 use Rattle.std.specs.declared.cmp.Ordering.{Ordering}
 use Rattle.std.specs.declared.cmp.Ordering.TheVariants.{Less, Equal, Greater}
-use Rattle.wm_index.proofs.IdLists.{less_is, less_than}
+use Rattle.wm_index.proofs.IdLists.{less_is, less_than, greater_is}
 use Rattle.wm_index.specs.Sought.{placed, without}
 use Rattle.wm_index.specs.Versioned.{AreSpanned, FitsAt, IsSpanned, StandsAt, VersionsFrom, VersionsRise, ids_under}
 use Rattle.wm_index.specs.declared.versioned.Versioned.{Versioned}
@@ -27,7 +27,7 @@ none_from b v (e ∷ es) up less =
     let first = up.0 in
     ap (λ c. cond c e.ids.items (ids_under es v)) (ne_eqb e.version v (λ same. absurd (omega (arith, first, less, same)))) ∙ none_from (e.version + 1) v es up.1 (omega (arith, first, less))
 
-from_at : (b : ℕ) (es : List Versioned) (i : ℕ) (d : Versioned) → VersionsFrom b es → i < length es → b ≤ (get_or es i d).version
+pub from_at : (b : ℕ) (es : List Versioned) (i : ℕ) (d : Versioned) → VersionsFrom b es → i < length es → b ≤ (get_or es i d).version
 from_at b [] i d up within = absurd (omega (arith, within))
 from_at b (e ∷ es) zero d up within = up.0
 from_at b (e ∷ es) (suc i) d up within =
@@ -57,11 +57,6 @@ index_most : (o : Ordering) → ordering_index o ≤ 2
 index_most Less = omega arith
 index_most Equal = omega arith
 index_most Greater = omega arith
-
-greater_is : (m n : ℕ) → n < m → nat_cmp m n ≡ Greater
-greater_is m n lt =
-    ap (λ c. cond c Less (cond (eqb m n) Equal Greater)) (le-ltb m n (omega (arith, lt)))
-    ∙ ap (λ c. cond c Equal Greater) (ne_eqb m n (λ same. absurd (omega (arith, lt, same))))
 
 equal_is : (m n : ℕ) → nat_cmp m n ≡ Equal → m ≡ n
 equal_is m n e = by_place (cases_lt m n) (cases_lt n m)

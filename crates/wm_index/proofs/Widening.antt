@@ -1,5 +1,5 @@
 -- Periods that are widened, and each holds those of all older versions.
-use Rattle.std.proofs.Common.{◌≡◌, ℕ, zero, suc, ◌<◌, ◌≤◌, ◌+◌, ◌++◌, ◌==◌, ◌&&◌, nat_le, true, cond, List, [], ◌∷◌, length, get_or, insert, remove, take, drop, min, max, refl, sym, ap, subst, ◌∙◌, arith}
+use Rattle.std.proofs.Common.{◌≡◌, ℕ, zero, suc, ◌<◌, ◌≤◌, ◌+◌, ◌++◌, ◌==◌, ◌&&◌, nat_le, true, cond, List, [], ◌∷◌, length, get_or, insert, remove, take, drop, min, max, refl, sym, ap, subst, ◌∙◌, arith, le_refl}
 use Rattle.std.proofs.Math.ListN.{set}
 use Rattle.std.proofs.Math.Nat.{min-eq_left, max-eq_left}
 use Rattle.std.proofs.lemmas.List.{append-nil, drop_all, take_all}
@@ -30,9 +30,6 @@ min_rises a b c le = grind (arith, le)
 
 max_rises : (a b c : ℕ) → b ≤ a → max b c ≤ max a c
 max_rises a b c le = grind (arith, le)
-
-same_le : (n : ℕ) → n ≤ n
-same_le n = omega arith
 
 -- ---- facts of all elements
 
@@ -154,7 +151,7 @@ put_widens x (suc i) (e ∷ es) new within older newer all =
 
 older_at : (es : List Versioned) (j : ℕ) (d : Versioned) → j < length es → Widens es → AllByRecursion (Encloses (get_or es j d)) (take (suc j) es)
 older_at [] j d within all = absurd (omega (arith, within))
-older_at (e ∷ es) zero d within all = ((same_le e.from, same_le e.till), tt)
+older_at (e ∷ es) zero d within all = ((le_refl e.from, le_refl e.till), tt)
 older_at (e ∷ es) (suc j) d within all = (All-at (λ (q : Versioned). Encloses q e) es j d (omega (arith, within)) all.0, older_at es j d (omega (arith, within)) all.1)
 
 newer_at : (es : List Versioned) (j : ℕ) (d : Versioned) → j < length es → Widens es → AllByRecursion (λ (q : Versioned). Encloses q (get_or es j d)) (drop (suc j) es)

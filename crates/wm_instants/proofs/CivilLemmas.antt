@@ -1,6 +1,6 @@
 -- Seconds and the days of jiff's calendar.
-use Rattle.std.proofs.Common.{◌≡◌, ℕ, ◌+◌, ◌-◌, ◌*◌, ◌/◌, ◌%◌, ◌<◌, ◌≤◌, ◌^◌, Bool, true, false, ◌&&◌, Ok, Err, to_z, w8, w16, refl, sym, ap, ◌∙◌, arith, rules, ℤ, pos, negsuc, neg_ℤ, ◌+ℤ◌, ◌-ℤ◌, ◌*ℤ◌, ◌<ℤ◌, ◌≤ℤ◌, unsigned_abs, int_div}
-use Rattle.std.proofs.lemmas.Bool.{false_from_ne_true}
+use Rattle.std.proofs.Common.{◌≡◌, ℕ, ◌+◌, ◌-◌, ◌*◌, ◌/◌, ◌%◌, ◌<◌, ◌≤◌, ◌^◌, true, false, ◌&&◌, Ok, Err, to_z, w8, w16, refl, sym, ap, ◌∙◌, arith, rules, ℤ, pos, negsuc, neg_ℤ, ◌+ℤ◌, ◌-ℤ◌, ◌*ℤ◌, ◌<ℤ◌, ◌≤ℤ◌, unsigned_abs, int_div}
+use Rattle.std.proofs.lemmas.Bool.{false_from_ne_true, and_parts}
 use Rattle.std.proofs.lemmas.Int.{by_lt_z}
 use Rattle.jiff_core.specs.declared.civil.date.Date.{Date}
 use Rattle.jiff_core.specs.declared.civil.datetime.DateTime.{DateTime}
@@ -49,7 +49,7 @@ days_behind-bound d h =
     let range = epoch_day_range d in
     omega (arith, signed_arith, first_day, one_part (epoch_day d -ℤ days_from_civil (pos 1) 1 1))
 
-below_end : (k h m s : ℕ) → k ≤ 3_652_058 → h < 24 → m < 60 → s < 60 → k * 86_400 + (h * 3600 + m * 60 + s) < END
+pub below_end : (k h m s : ℕ) → k ≤ 3_652_058 → h < 24 → m < 60 → s < 60 → k * 86_400 + (h * 3600 + m * 60 + s) < END
 below_end k h m s a b c d = omega arith
 
 -- what jiff's duration between the first second and a datetime is in seconds
@@ -69,10 +69,6 @@ seconds_between shown first nanos secs year begins is whole =
 -- the tests of a date and a time are those of the library
 pub real_date : (y m d h mi s : ℕ) → 0 < y → IsDate (pos y) (pos m) (pos d) × IsTime (pos h) (pos mi) (pos s) (pos 0) → is_date y m d && is_clock h mi s ≡ true
 real_date y m d h mi s year is = grind (arith, signed_arith)
-
-both_true : (p q : Bool) → p && q ≡ true → (p ≡ true) × (q ≡ true)
-both_true true q e = (refl, e)
-both_true false q e = cc
 
 date_from : (y m d : ℕ) → is_date y m d ≡ true → IsDate (pos y) (pos m) (pos d)
 date_from y m d e = grind (arith, signed_arith)
@@ -99,7 +95,7 @@ pub no_date : (y m d h mi s : ℕ) (zy zm zd zh zmi zs : ℤ) → Signs y m d h 
 no_date y m d h mi s zy zm zd zh zmi zs signs isnt =
     let isnt' : IsDate (pos y) (pos m) (pos d) × IsTime (pos h) (pos mi) (pos s) (pos 0) → ⊥ = λ is. isnt (rw (signs.year, signs.month, signs.day, signs.hour, signs.minute, signs.second) is) in
     let none : is_date y m d && is_clock h mi s ≡ false =
-    false_from_ne_true (is_date y m d && is_clock h mi s) (λ e. let both = both_true (is_date y m d) (is_clock h mi s) e in isnt' (date_from y m d both.0, clock_from h mi s both.1)) in
+    false_from_ne_true (is_date y m d && is_clock h mi s) (λ e. let both = and_parts (is_date y m d) (is_clock h mi s) e in isnt' (date_from y m d both.0, clock_from h mi s both.1)) in
     rw none refl
 
 -- the instant of a date and a time that the library has

@@ -7,6 +7,7 @@ use Rattle.std.proofs.Math.Bool.{and-false, false-and}
 use Rattle.std.proofs.lemmas.Bool.{ne_eqb, eq-eqb}
 use Rattle.std.proofs.lemmas.Bool.Decides.{eqb_tells}
 use Rattle.std.proofs.lemmas.List.{take-append-drop}
+use Rattle.wm_base.proofs.Plain.{unless_parts}
 use Rattle.wm_instants.specs.declared.fields.Day.{Day}
 use Rattle.wm_instants.specs.declared.fields.Clock.{Clock}
 use Rattle.wm_instants.specs.declared.refusal.InstantRefusal.{InstantRefusal}
@@ -35,15 +36,11 @@ abbrev lacks : ℕ → List ℕ → Bool
 lacks letter [] = true
 lacks letter (c ∷ f) = cond (nat_eq c letter) false (lacks letter f)
 
-not_here : (p q : Bool) → cond p false q ≡ true → (p ≡ false) × (q ≡ true)
-not_here true q h = cc
-not_here false q h = (refl, h)
-
 field_from-lacks : (f a : List ℕ) (n letter : ℕ) → lacks letter f ≡ true → field_from n letter f a ≡ n
 field_from-lacks [] a n letter h = refl
 field_from-lacks (c ∷ f) [] n letter h = refl
 field_from-lacks (c ∷ f) (x ∷ a) n letter h =
-    let parts = not_here (nat_eq c letter) (lacks letter f) h in
+    let parts = unless_parts (nat_eq c letter) (lacks letter f) h in
     rw parts.0 (field_from-lacks f a n letter parts.1)
 
 -- ---- a date, a mark and a time of day

@@ -1,6 +1,6 @@
 -- The tests of opening, one by one, and the fields as they are read.
 use Rattle.std.proofs.Common.{◌≡◌, ℕ, ◌+◌, ◌-◌, ◌<◌, ◌≤◌, Bool, true, false, List, length, take, drop, slice_index, refl, sym, ◌∙◌, ap, arith, Option, Some, None}
-use Rattle.std.proofs.lemmas.Bool.{le-ltb, lt-ltb}
+use Rattle.std.proofs.lemmas.Bool.{le-ltb, lt-ltb, and_left}
 use Rattle.std.specs.Prelude.{◌&&◌, not, nat_lt, if◌then◌else◌}
 use Rattle.std.proofs.lemmas.List.{drop-take, take-take}
 use Rattle.wm_base.specs.declared.fault.Damage.{Damage}
@@ -61,9 +61,6 @@ verdict_none size f d k format disorder le more =
     let c : nat_lt k 3 ≡ false = le-ltb k 3 more in
     rw (e, format, disorder, r, c)
 
-and_closed : (b d : Bool) → b ≡ false → (b && d) ≡ false
-and_closed b d closed = grind arith
-
 and_disorder : (b d : Bool) → b ≡ true → d ≡ false → (b && not d) ≡ true
 and_disorder b d one two = grind arith
 
@@ -77,13 +74,13 @@ pub bad_journal : (a : List ℕ) → 4096 ≤ length a → has_format a ≡ true
 bad_journal a le format open_ disorder = damage_is a ∙ verdict_journal (length a) (has_format a) (is_open a && not (is_in_order a)) (count_of a) le format (and_disorder (is_open a) (is_in_order a) open_ disorder)
 
 pub short_root : (a : List ℕ) → 4096 ≤ length a → has_format a ≡ true → is_open a ≡ false → length a < 8192 → damage_of a ≡ Some (1, Short)
-short_root a le format closed lt = damage_is a ∙ verdict_root_short (length a) (has_format a) (is_open a && not (is_in_order a)) (count_of a) le format (and_closed (is_open a) (not (is_in_order a)) closed) lt
+short_root a le format closed lt = damage_is a ∙ verdict_root_short (length a) (has_format a) (is_open a && not (is_in_order a)) (count_of a) le format (and_left (is_open a) (not (is_in_order a)) closed) lt
 
 pub bad_root : (a : List ℕ) → has_format a ≡ true → is_open a ≡ false → 8192 ≤ length a → count_of a < 3 → damage_of a ≡ Some (1, Root)
-bad_root a format closed le lt = damage_is a ∙ verdict_root (length a) (has_format a) (is_open a && not (is_in_order a)) (count_of a) format (and_closed (is_open a) (not (is_in_order a)) closed) le lt
+bad_root a format closed le lt = damage_is a ∙ verdict_root (length a) (has_format a) (is_open a && not (is_in_order a)) (count_of a) format (and_left (is_open a) (not (is_in_order a)) closed) le lt
 
 pub no_damage : (a : List ℕ) → has_format a ≡ true → is_open a ≡ false → 8192 ≤ length a → 3 ≤ count_of a → damage_of a ≡ None
-no_damage a format closed le more = damage_is a ∙ verdict_none (length a) (has_format a) (is_open a && not (is_in_order a)) (count_of a) format (and_closed (is_open a) (not (is_in_order a)) closed) le more
+no_damage a format closed le more = damage_is a ∙ verdict_none (length a) (has_format a) (is_open a && not (is_in_order a)) (count_of a) format (and_left (is_open a) (not (is_in_order a)) closed) le more
 
 -- the fields, in what was read of the front
 pub byte_read : (file bytes : List ℕ) (n i : ℕ) → i < n → bytes ≡ stretch file 0 n → slice_index bytes i ≡ slice_index file i

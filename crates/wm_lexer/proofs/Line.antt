@@ -2,15 +2,12 @@
 use Rattle.std.proofs.Common.{◌≡◌, ℕ, zero, suc, ◌+◌, ◌-◌, ◌≤◌, ◌<◌, Bool, true, false, cond, List, [], ◌∷◌, ◌++◌, length, take, drop, refl, sym, ap, subst, ◌∙◌, arith, append_assoc}
 use Rattle.std.specs.Prelude.{◌&&◌}
 use Rattle.std.proofs.lemmas.List.{append-nil, length-append, length-drop}
+use Rattle.std.proofs.lemmas.Bool.{and_parts}
 use Rattle.wm_lexer.specs.declared.token.TokenKind.{TokenKind}
 use Rattle.wm_lexer.specs.declared.token.Token.{Token}
 use Rattle.wm_lexer.specs.Scanning.{is_blank, skipped, token_from}
 use Rattle.wm_lexer.specs.Tokens.{all_pass, IsNext, AreTokens}
 use Rattle.wm_lexer.proofs.Longest.{Here, here}
-
-both : (a b : Bool) → (a && b) ≡ true → (a ≡ true) × (b ≡ true)
-both true b e = (refl, e)
-both false b e = absurd cc
 
 -- ---- blanks
 
@@ -42,7 +39,7 @@ skipped_head (c ∷ bs) b cs e = go (is_blank c) refl e (λ k. skipped_head bs b
 all_pass-append : (xs ys : List ℕ) → all_pass is_blank xs ≡ true → all_pass is_blank ys ≡ true → all_pass is_blank (xs ++ ys) ≡ true
 all_pass-append [] ys p q = q
 all_pass-append (x ∷ xs) ys p q =
-    let w = both (is_blank x) (all_pass is_blank xs) p in
+    let w = and_parts (is_blank x) (all_pass is_blank xs) p in
     rw (w.0) (all_pass-append xs ys w.1 q)
 
 -- blanks before the tokens

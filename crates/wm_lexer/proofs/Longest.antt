@@ -1,9 +1,9 @@
 -- The token that is found at the front of the bytes is the longest one there.
 use Rattle.std.proofs.Common.{◌≡◌, ◌≢◌, ℕ, zero, suc, ◌+◌, ◌≤◌, ◌<◌, Bool, true, false, cond, List, [], ◌∷◌, ◌++◌, length, take, drop, Option, Some, None, refl, sym, ap, subst, ◌∙◌, inl, inr, arith, append_assoc}
-use Rattle.std.specs.Prelude.{◌⊎◌, ◌||◌, ◌&&◌, ◌==◌, not, take_while, codes}
+use Rattle.std.specs.Prelude.{◌⊎◌, ◌||◌, ◌==◌, not, take_while, codes}
 use Rattle.std.specs.Char.{is_ascii_alphabetic, is_ascii_digit}
 use Rattle.std.proofs.Math.Nat.{le_refl}
-use Rattle.std.proofs.lemmas.Bool.{eqb-true}
+use Rattle.std.proofs.lemmas.Bool.{eqb-true, and_parts, or_cases}
 use Rattle.std.proofs.lemmas.Bool.Decides.{nat_tests}
 use Rattle.std.proofs.lemmas.List.{append-nil, length-append}
 use Rattle.std.proofs.lemmas.List.Sums.{take_while-cons}
@@ -13,14 +13,6 @@ use Rattle.wm_lexer.specs.Scanning.{is_blank, is_word_byte, has_byte, is_single,
 use Rattle.wm_lexer.specs.Tokens.{all_pass, IsId, IsInt, NoQuote, Quoted, IsText, Among, marks, IsToken, IsBad, IsOne, IsNext}
 
 -- ---- tests
-
-either : (a b : Bool) → (a || b) ≡ true → (a ≡ true) ⊎ (b ≡ true)
-either true b e = inl refl
-either false b e = inr e
-
-both : (a b : Bool) → (a && b) ≡ true → (a ≡ true) × (b ≡ true)
-both true b e = (refl, e)
-both false b e = absurd cc
 
 letter_no_digit : (b : ℕ) → is_ascii_alphabetic b ≡ true → is_ascii_digit b ≡ true → ⊥
 letter_no_digit b p q = grind (arith, nat_tests)
@@ -36,7 +28,7 @@ In (x ∷ xs) b = (b ≡ x) ⊎ In xs b
 none_pass : (p : ℕ → Bool) (xs : List ℕ) (b : ℕ) → all_pass (λ x. not (p x)) xs ≡ true → In xs b → p b ≡ true → ⊥
 none_pass p [] b a i h = i
 none_pass p (x ∷ xs) b a i h =
-    let w = both (not (p x)) (all_pass (λ x. not (p x)) xs) a in
+    let w = and_parts (not (p x)) (all_pass (λ x. not (p x)) xs) a in
     elim i [
       | inl e ↦ let k : p x ≡ true = sym (ap p e) ∙ h in contra (p x) w.0 k
       | inr e ↦ none_pass p xs b w.1 e h
@@ -80,7 +72,7 @@ front_longest : (p : ℕ → Bool) (us v bs : List ℕ) → us ++ v ≡ bs → a
 front_longest p [] v bs e a = omega arith
 front_longest p (c ∷ us) v [] e a = absurd cc
 front_longest p (c ∷ us) v (b ∷ bs) e a =
-    let w = both (p c) (all_pass p us) a in
+    let w = and_parts (p c) (all_pass p us) a in
     let head : c ≡ b = cc in
     let tail : us ++ v ≡ bs = cc in
     let passes : p b ≡ true = sym (ap p head) ∙ w.0 in
@@ -117,7 +109,7 @@ head_of : (k : TokenKind) (u v : List ℕ) → IsToken k u v → (b : ℕ) × (u
 head_of Id [] v t = absurd t
 head_of Id (b ∷ us) v t = (b, us, refl, t.0)
 head_of Int [] v t = absurd t
-head_of Int (b ∷ us) v t = (b, us, refl, (both (is_ascii_digit b) (all_pass is_ascii_digit us) t).0)
+head_of Int (b ∷ us) v t = (b, us, refl, (and_parts (is_ascii_digit b) (all_pass is_ascii_digit us) t).0)
 head_of Text [] v t = absurd t
 head_of Text (b ∷ us) v t = (b, us, refl, t.0)
 head_of Mark u v t = mark_head marks u marks_heads t
@@ -313,7 +305,7 @@ Singles (x ∷ xs) ws = (x ∷ []) ∷ Singles xs ws
 single_among : (xs : List ℕ) (ws : List (List ℕ)) (b : ℕ) → has_byte xs b ≡ true → Among (Singles xs ws) (b ∷ [])
 single_among [] ws b h = absurd cc
 single_among (x ∷ xs) ws b h =
-    elim (either (b == x) (has_byte xs b) h) [
+    elim (or_cases (b == x) (has_byte xs b) h) [
       | inl e ↦ inl (ap (λ (z : ℕ). z ∷ []) (eqb-true b x e))
       | inr k ↦ inr (single_among xs ws b k)
     ]
@@ -415,7 +407,7 @@ int_longest b bs h Id u v e t = let s = starts Id u v b bs e t in absurd (letter
 int_longest b bs h Int u v e t =
     let s = starts Int u v b bs e t in
     let w : IsInt (b ∷ s.0) = subst IsInt s.1 t in
-    omega (arith, ap length s.1, front_longest is_ascii_digit s.0 v bs (sym s.2) (both (is_ascii_digit b) (all_pass is_ascii_digit s.0) w).1)
+    omega (arith, ap length s.1, front_longest is_ascii_digit s.0 v bs (sym s.2) (and_parts (is_ascii_digit b) (all_pass is_ascii_digit s.0) w).1)
 int_longest b bs h Text u v e t = let s = starts Text u v b bs e t in absurd (digit_no_quote b h s.3)
 int_longest b bs h Mark u v e t = let s = starts Mark u v b bs e t in absurd (digit_no_mark b h s.3)
 int_longest b bs h Bad u v e t = absurd t

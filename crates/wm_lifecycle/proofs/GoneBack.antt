@@ -1,5 +1,7 @@
 -- The records that go where a workspace goes back to a savepoint, and what is put for that.
 use Rattle.std.proofs.Common.{◌≡◌, ℕ, ◌==◌, Bool, true, false, not, ◌&&◌, ◌||◌, List, [], ◌∷◌, ◌++◌, map, Some, is_some, refl, sym, ap, subst, ◌∙◌}
+use Rattle.std.proofs.lemmas.Option.{same_Some}
+use Rattle.std.proofs.Math.Bool.{and-false}
 use Rattle.std.specs.List.{filter, list_all}
 use Rattle.wm_graph.specs.Parts.{Parts, parts_of, space_of}
 use Rattle.wm_graph.specs.Rules.{keep_rules}
@@ -48,26 +50,10 @@ goes_owned x (records.Hist y) = by_test (y.space == x.space) _
     by_test : (a b : Bool) → not (not a || b) ≡ (a && not (not a || b))
     by_test true b = refl
     by_test false b = refl
-goes_owned x (records.Space y) = none (y.number == x.space)
-  where
-    none : (a : Bool) → false ≡ (a && false)
-    none true = refl
-    none false = refl
-goes_owned x (records.Version y) = none (y.space == x.space)
-  where
-    none : (a : Bool) → false ≡ (a && false)
-    none true = refl
-    none false = refl
-goes_owned x (records.Lock y) = none (y.space == x.space)
-  where
-    none : (a : Bool) → false ≡ (a && false)
-    none true = refl
-    none false = refl
-goes_owned x (records.Turn y) = none (y.space == x.space)
-  where
-    none : (a : Bool) → false ≡ (a && false)
-    none true = refl
-    none false = refl
+goes_owned x (records.Space y) = sym (and-false (y.number == x.space))
+goes_owned x (records.Version y) = sym (and-false (y.space == x.space))
+goes_owned x (records.Lock y) = sym (and-false (y.space == x.space))
+goes_owned x (records.Turn y) = sym (and-false (y.space == x.space))
 goes_owned x _ = refl
 
 -- so all that goes is found among these
@@ -83,13 +69,7 @@ restoring_is counters_id space_id id counted counters new space dropped ids vers
 -- the workspace was not rebased since
 based_so : (p : Parts) (n making : ℕ) (a : Space) (x : Savepoint) → CanRestore p n making → space_of p.spaces n ≡ Some a → saved_as p n making ≡ Some x → x.rebases ≡ a.rebases
 based_so p n making a x can there saved =
-    ap (λ (k : Savepoint). k.rebases) (one_savepoint x can.savepoint (sym saved ∙ can.saved)) ∙ can.based ∙ ap (λ (r : Space). r.rebases) (one_space can.space a (sym can.there ∙ there))
-  where
-    one_savepoint : (y z : Savepoint) → Some y ≡ Some z → y ≡ z
-    one_savepoint y z e = cc
-
-    one_space : (y z : Space) → Some y ≡ Some z → y ≡ z
-    one_space y z e = cc
+    ap (λ (k : Savepoint). k.rebases) (same_Some x can.savepoint (sym saved ∙ can.saved)) ∙ can.based ∙ ap (λ (r : Space). r.rebases) (same_Some can.space a (sym can.there ∙ there))
 
 -- so it is what going back makes of each state
 pub drafts_back : (rs : List Stored) (m work n making : ℕ) (c : Counters) (a : Space) (x : Savepoint) (counters_id space_id id : ℕ) (ids : List ℕ) (changes : List Change) → keep_rules (parts_of rs) ≡ true → CanWork (parts_of rs) m work

@@ -1,16 +1,16 @@
 -- Lists of ids, one for each id of others.
 use Rattle.std.proofs.Common.{◌≡◌, ◌≢◌, ℕ, ◌==◌, Bool, true, false, not, cond, ◌&&◌, ◌||◌, List, [], ◌∷◌, Option, Some, refl, sym, ap, ◌∙◌}
-use Rattle.std.proofs.lemmas.Bool.{eq-eqb}
+use Rattle.std.proofs.lemmas.Bool.{eq-eqb, or_from, or_right, true≢false}
 use Rattle.std.specs.List.{filter, flat_map, list_all, list_any}
+use Rattle.wm_base.proofs.Plain.{unless_parts}
 use Rattle.wm_spec.specs.Records.{record_at, ids_differ}
 use Rattle.wm_spec.specs.declared.record.Record.{Record}
 use Rattle.wm_spec.specs.declared.record.stored.Stored.{Stored}
 use Rattle.wm_state.specs.Batches.{is_dropped}
 use Rattle.wm_state.specs.ById.{Ascend}
 use Rattle.wm_state.proofs.Appending.{all_append}
-use Rattle.wm_state.proofs.Tests.{bool_apart}
 use Rattle.wm_changes.proofs.Dropping.{filter-with}
-use Rattle.wm_changes.proofs.DroppingAll.{differ-append, dropped-append, split_if}
+use Rattle.wm_changes.proofs.DroppingAll.{differ-append, dropped-append}
 use Rattle.wm_index.proofs.Finding.{all_of}
 use Rattle.wm_index.proofs.Using.{some_ids}
 use Rattle.wm_index.specs.Sought.{ids_with, is_nil}
@@ -19,11 +19,7 @@ first : (o : ℕ) (os : List ℕ) → is_dropped (o ∷ os) o ≡ true
 first o os = ap (λ b. b || is_dropped os o) (eq-eqb o o refl)
 
 later : (o : ℕ) (os : List ℕ) (k : ℕ) → is_dropped os k ≡ true → is_dropped (o ∷ os) k ≡ true
-later o os k is = by_test (o == k) (is_dropped os k) is
-  where
-    by_test : (a b : Bool) → b ≡ true → (a || b) ≡ true
-    by_test true b e = refl
-    by_test false b e = e
+later o os k is = or_right (o == k) (is_dropped os k) is
 
 -- some list has the id
 pub any_flat : (f : ℕ → List ℕ) (os : List ℕ) (id : ℕ) → is_dropped (flat_map f os) id ≡ list_any (λ o. is_dropped (f o) id) os
@@ -33,10 +29,7 @@ any_flat f (o ∷ os) id = dropped-append (f o) (flat_map f os) id ∙ ap (λ b.
 -- none has it
 none_flat : (f : ℕ → List ℕ) (os : List ℕ) (id : ℕ) → ((k : ℕ) → is_dropped os k ≡ true → is_dropped (f k) id ≡ false) → is_dropped (flat_map f os) id ≡ false
 none_flat f [] id none = refl
-none_flat f (o ∷ os) id none = dropped-append (f o) (flat_map f os) id ∙ neither (is_dropped (f o) id) (is_dropped (flat_map f os) id) (none o (first o os)) (none_flat f os id (λ k is. none k (later o os k is)))
-  where
-    neither : (a b : Bool) → a ≡ false → b ≡ false → (a || b) ≡ false
-    neither a b e g = rw (e, g) refl
+none_flat f (o ∷ os) id none = dropped-append (f o) (flat_map f os) id ∙ or_from (is_dropped (f o) id) (is_dropped (flat_map f os) id) (none o (first o os)) (none_flat f os id (λ k is. none k (later o os k is)))
 
 -- no id stands twice, where none does in a list and no two lists share one
 pub differ_flat : (f : ℕ → List ℕ) (os : List ℕ) → ids_differ os ≡ true → ((o : ℕ) → is_dropped os o ≡ true → ids_differ (f o) ≡ true)
@@ -44,9 +37,9 @@ pub differ_flat : (f : ℕ → List ℕ) (os : List ℕ) → ids_differ os ≡ t
 unfolding ids_differ
 differ_flat f [] differ each apart = refl
 differ_flat f (o ∷ os) differ each apart =
-    let h = split_if (is_dropped os o) (ids_differ os) differ in
+    let h = unless_parts (is_dropped os o) (ids_differ os) differ in
     differ-append (f o) (flat_map f os) (each o (first o os)) (differ_flat f os h.1 (λ k is. each k (later o os k is)) (λ j k id one other. apart j k id (later o os j one) (later o os k other)))
-    (λ id is. none_flat f os id (λ k there. apart o k id (first o os) (later o os k there) (λ same. bool_apart (sym there ∙ ap (λ i. is_dropped os i) (sym same) ∙ h.0)) is))
+    (λ id is. none_flat f os id (λ k there. apart o k id (first o os) (later o os k there) (λ same. true≢false (sym there ∙ ap (λ i. is_dropped os i) (sym same) ∙ h.0)) is))
 
 -- all pass a test, where those of each list do
 pub all_flat : (p : ℕ → Bool) (f : ℕ → List ℕ) (os : List ℕ) → ((o : ℕ) → is_dropped os o ≡ true → list_all p (f o) ≡ true) → list_all p (flat_map f os) ≡ true

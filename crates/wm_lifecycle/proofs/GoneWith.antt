@@ -1,7 +1,9 @@
 -- The records that go with a workspace: its own, and the pieces of its versions.
 use Rattle.std.proofs.Common.{◌≡◌, ◌≢◌, ℕ, ◌==◌, Bool, true, false, not, ◌&&◌, ◌||◌, List, [], ◌∷◌, ◌++◌, map, Option, Some, None, is_some, refl, sym, ap, subst, ◌∙◌, ◌⊎◌, inl, inr}
-use Rattle.std.proofs.lemmas.Bool.{cases_eq, eq-eqb, eqb-true, ne_eqb}
+use Rattle.std.proofs.lemmas.Bool.{cases_eq, eq-eqb, eqb-true, ne_eqb, and_from, or_from, true≢false}
+use Rattle.std.proofs.Math.Bool.{and-false, not-not}
 use Rattle.std.specs.List.{filter_map, flat_map, list_all, list_any}
+use Rattle.wm_base.proofs.Plain.{none_some}
 use Rattle.wm_graph.specs.Parts.{parts_of, as_version}
 use Rattle.wm_graph.specs.Rules.{keep_rules}
 use Rattle.wm_spec.specs.Records.{record_at, ids_differ}
@@ -18,8 +20,7 @@ use Rattle.wm_state.specs.Points.{moved}
 use Rattle.wm_state.specs.declared.edit.Edit.TheVariants as edits
 use Rattle.wm_state.proofs.Apart.{ruled, ruled_versions}
 use Rattle.wm_state.proofs.Newest.{numbers_differ}
-use Rattle.wm_state.proofs.Tests.{and_true, bool_apart}
-use Rattle.wm_changes.proofs.Dropping.{differ-with, none_some, told-with}
+use Rattle.wm_changes.proofs.Dropping.{differ-with, told-with}
 use Rattle.wm_changes.proofs.DroppingAll.{there-with, there_all}
 use Rattle.wm_index.proofs.Finding.{Tests, all_of}
 use Rattle.wm_index.proofs.Leaves.{any-kind}
@@ -42,7 +43,7 @@ has_one : (q : Record → Bool) (ss : List Stored) → Ascend ss → (o : ℕ) �
 has_one q ss sorted o is = by_record (record_at ss o) refl
   where
     by_record : (found : Option Record) → record_at ss o ≡ found → HasOne q ss o
-    by_record None none = absurd (bool_apart (sym is ∙ there-with q ss o none))
+    by_record None none = absurd (true≢false (sym is ∙ there-with q ss o none))
     by_record (Some r) some = record { one = r; found = some; passes = sym (told-with q ss sorted o r some) ∙ is }
 
 -- a record is a piece that stands in another, which is a version
@@ -69,7 +70,7 @@ under_there ss _ = refl
 
 -- what is a workspace's own is no piece
 not_piece : (n number : ℕ) (r : Record) → is_sought (OwnedBy n) r ≡ true → is_sought (PiecesIn number) r ≡ false
-not_piece n number (records.Piece x) owned = absurd (bool_apart (sym owned))
+not_piece n number (records.Piece x) owned = absurd (true≢false (sym owned))
 not_piece n number _ owned = refl
 
 not_taken : (n : ℕ) (found : Option Record) (r : Record) → is_sought (OwnedBy n) r ≡ true → takes found r ≡ false
@@ -83,7 +84,7 @@ taken_once : (ss : List Stored) → numbers_differ (filter_map as_version (all_o
 taken_once ss numbers o k r away is = by_one (record_at ss o) refl is
   where
     by_piece : (v w : Version) → (v.number == w.number) ≡ false → (r : Record) → is_sought (PiecesIn v.number) r ≡ true → is_sought (PiecesIn w.number) r ≡ false
-    by_piece v w apart (records.Piece x) h = ne_eqb x.version w.number (λ same. bool_apart (sym (eq-eqb v.number w.number (sym (eqb-true x.version v.number h) ∙ same)) ∙ apart))
+    by_piece v w apart (records.Piece x) h = ne_eqb x.version w.number (λ same. true≢false (sym (eq-eqb v.number w.number (sym (eqb-true x.version v.number h) ∙ same)) ∙ apart))
     by_piece v w apart _ h = refl
 
     by_other : (v : Version) → record_at ss o ≡ Some (records.Version v) → is_sought (PiecesIn v.number) r ≡ true → (b : Option Record) → record_at ss k ≡ b → takes b r ≡ false
@@ -92,7 +93,7 @@ taken_once ss numbers o k r away is = by_one (record_at ss o) refl is
 
     by_one : (a : Option Record) → record_at ss o ≡ a → takes a r ≡ true → takes (record_at ss k) r ≡ false
     by_one (Some (records.Version v)) one h = by_other v one h (record_at ss k) refl
-    by_one _ one h = absurd (bool_apart (sym h))
+    by_one _ one h = absurd (true≢false (sym h))
 
 one_differs : (ss : List Stored) → Ascend ss → (n o : ℕ) → is_dropped (ids_with (is_sought (OwnedBy n)) ss) o ≡ true → ids_differ (with_pieces ss o) ≡ true
 unfolding ids_differ
@@ -103,7 +104,7 @@ one_differs ss sorted n o is =
 one_there : (ss : List Stored) → Ascend ss → (n o : ℕ) → is_dropped (ids_with (is_sought (OwnedBy n)) ss) o ≡ true → list_all (λ id. is_some (record_at ss id)) (with_pieces ss o) ≡ true
 one_there ss sorted n o is =
     let h = has_one (is_sought (OwnedBy n)) ss sorted o is in
-    and_true (is_some (record_at ss o)) (list_all (λ id. is_some (record_at ss id)) (pieces_under ss (record_at ss o))) (ap is_some h.found) (under_there ss (record_at ss o))
+    and_from (is_some (record_at ss o)) (list_all (λ id. is_some (record_at ss id)) (pieces_under ss (record_at ss o))) (ap is_some h.found) (under_there ss (record_at ss o))
 
 -- two of them share no id
 none_shared : (ss : List Stored) → Ascend ss → numbers_differ (filter_map as_version (all_of ss)) → (n o k id : ℕ) → is_dropped (ids_with (is_sought (OwnedBy n)) ss) o ≡ true → is_dropped (ids_with (is_sought (OwnedBy n)) ss) k ≡ true → o ≢ k
@@ -116,9 +117,6 @@ none_shared ss sorted numbers n o k id one_is other_is away shared = by_record (
     other : HasOne (is_sought (OwnedBy n)) ss k
     other = has_one (is_sought (OwnedBy n)) ss sorted k other_is
 
-    neither : (a b : Bool) → a ≡ false → b ≡ false → (a || b) ≡ false
-    neither a b e g = rw (e, g) refl
-
     same_record : (j : ℕ) (r q : Record) → j ≡ id → record_at ss id ≡ Some r → record_at ss j ≡ Some q → q ≡ r
     same_record j r q is found own = some_same (sym own ∙ ap (record_at ss) is ∙ found)
       where
@@ -126,7 +124,7 @@ none_shared ss sorted numbers n o k id one_is other_is away shared = by_record (
         some_same e = cc
 
     by_record : (found : Option Record) → record_at ss id ≡ found → is_dropped (with_pieces ss k) id ≡ false
-    by_record None none = neither (k == id) (is_dropped (pieces_under ss (record_at ss k)) id) (ne_eqb k id (λ e. none_some (record_at ss k) other.one (ap (record_at ss) e ∙ none) other.found)) (under_none ss (record_at ss k) id none)
+    by_record None none = or_from (k == id) (is_dropped (pieces_under ss (record_at ss k)) id) (ne_eqb k id (λ e. none_some (record_at ss k) other.one (ap (record_at ss) e ∙ none) other.found)) (under_none ss (record_at ss k) id none)
     by_record (Some r) some = by_id (cases_eq o id)
       where
         taken : o ≢ id → takes (record_at ss o) r ≡ true
@@ -134,11 +132,11 @@ none_shared ss sorted numbers n o k id one_is other_is away shared = by_record (
 
         by_id : (o ≡ id) ⊎ (o ≢ id) → is_dropped (with_pieces ss k) id ≡ false
         by_id (inl same) =
-            neither (k == id) (is_dropped (pieces_under ss (record_at ss k)) id) (ne_eqb k id (λ e. away (same ∙ sym e)))
+            or_from (k == id) (is_dropped (pieces_under ss (record_at ss k)) id) (ne_eqb k id (λ e. away (same ∙ sym e)))
             (under_told ss sorted (record_at ss k) id r some ∙ not_taken n (record_at ss k) r (sym (ap (is_sought (OwnedBy n)) (same_record o r one.one same some one.found)) ∙ one.passes))
         by_id (inr apart) =
-            neither (k == id) (is_dropped (pieces_under ss (record_at ss k)) id)
-            (ne_eqb k id (λ e. bool_apart (sym (taken apart) ∙ not_taken n (record_at ss o) r (sym (ap (is_sought (OwnedBy n)) (same_record k r other.one e some other.found)) ∙ other.passes))))
+            or_from (k == id) (is_dropped (pieces_under ss (record_at ss k)) id)
+            (ne_eqb k id (λ e. true≢false (sym (taken apart) ∙ not_taken n (record_at ss o) r (sym (ap (is_sought (OwnedBy n)) (same_record k r other.one e some other.found)) ∙ other.passes))))
             (under_told ss sorted (record_at ss k) id r some ∙ taken_once ss numbers o k r away (taken apart))
 
 -- ---- what goes
@@ -151,10 +149,6 @@ numbers_of ss rules = let r = ruled (parts_of ss) rules in (ruled_versions (part
 told_gone : (n : ℕ) (vs : List Version) → numbers_differ vs → (r : Record) → (is_sought (OwnedBy n) r || list_any (λ (v : Version). (v.space == n) && is_sought (PiecesIn v.number) r) vs) ≡ not (keeps_without vs n r)
 told_gone n vs numbers r = by_kind r
   where
-    not_not : (b : Bool) → b ≡ not (not b)
-    not_not true = refl
-    not_not false = refl
-
     no_version : (xs : List Version) → list_any (λ (v : Version). (v.space == n) && false) xs ≡ false
     no_version [] = refl
     no_version (x ∷ xs) = rw (no_version xs) (none (x.space == n))
@@ -168,7 +162,7 @@ told_gone n vs numbers r = by_kind r
     own false c e = e
 
     by_kind : (q : Record) → (is_sought (OwnedBy n) q || list_any (λ (v : Version). (v.space == n) && is_sought (PiecesIn v.number) q) vs) ≡ not (keeps_without vs n q)
-    by_kind (records.Piece x) = version_told n x.version vs numbers ∙ not_not _
+    by_kind (records.Piece x) = version_told n x.version vs numbers ∙ sym (not-not _)
     by_kind (records.Space x) = own (x.number == n) _ (no_version vs)
     by_kind (records.Version x) = own (x.space == n) _ (no_version vs)
     by_kind (records.Savepoint x) = own (x.space == n) _ (no_version vs)
@@ -190,19 +184,15 @@ gone_dropped ss n sorted rules id r is =
     ∙ any-kind as_version (λ (v : Version). (v.space == n) && is_sought (PiecesIn v.number) r) (λ q. is_sought (OwnedBy n) q && takes (Some q) r) tests (all_of ss))
     ∙ told_gone n (filter_map as_version (all_of ss)) (numbers_of ss rules) r
   where
-    none : (a : Bool) → (a && false) ≡ false
-    none true = refl
-    none false = refl
-
     tests : Tests as_version (λ (v : Version). (v.space == n) && is_sought (PiecesIn v.number) r) (λ q. is_sought (OwnedBy n) q && takes (Some q) r)
     tests (records.Version v) = refl
-    tests (records.Space x) = none (x.number == n)
-    tests (records.Savepoint x) = none (x.space == n)
-    tests (records.Touch x) = none (x.space == n)
-    tests (records.Lock x) = none (x.space == n)
-    tests (records.Hist x) = none (x.space == n)
-    tests (records.Mark x) = none (x.space == n)
-    tests (records.Turn x) = none (x.space == n)
+    tests (records.Space x) = and-false (x.number == n)
+    tests (records.Savepoint x) = and-false (x.space == n)
+    tests (records.Touch x) = and-false (x.space == n)
+    tests (records.Lock x) = and-false (x.space == n)
+    tests (records.Hist x) = and-false (x.space == n)
+    tests (records.Mark x) = and-false (x.space == n)
+    tests (records.Turn x) = and-false (x.space == n)
     tests _ = refl
 
 pub gone_differ : (ss : List Stored) (n : ℕ) → Ascend ss → keep_rules (parts_of ss) ≡ true → ids_differ (flat_map (with_pieces ss) (ids_with (is_sought (OwnedBy n)) ss)) ≡ true

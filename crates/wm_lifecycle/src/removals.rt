@@ -57,8 +57,8 @@ pub fn remove(
     let dropped = all_with_pieces(alloc, image, own.as_slice())?;
     let mut changes = Changes::new(alloc);
     changes.push(put(counters_id, Record::Counters(counted)))?;
-    let said = drop_all(&mut changes, dropped.as_slice());
+    let pushed = drop_all(&mut changes, dropped.as_slice());
     drop(dropped);
-    said?;
+    pushed?;
     Ok(changes)
 }

@@ -116,9 +116,9 @@ pub fn restore(
     let dropped = dropped_back(alloc, image, savepoint)?;
     let new = restored_to(alloc, savepoint, old)?;
     let mut changes = space_changes(alloc, counters_id, counted, space_id, new)?;
-    let said = drop_all(&mut changes, dropped.as_slice());
+    let pushed = drop_all(&mut changes, dropped.as_slice());
     drop(dropped);
-    said?;
+    pushed?;
     changes.push(put(id, Record::Version(version)))?;
     Ok(changes)
 }

@@ -57,7 +57,7 @@ columns_filled : (names : List (List ℕ)) (vs : List Value) (cs : List TableCol
 columns_filled names vs [] all = refl
 columns_filled names vs (c ∷ cs) all = and_from _ _ (named_filled names vs c.name all) (columns_filled names vs cs all)
 
-taken_filled : (n : ℕ) (vs : List Value) → list_all is_filled vs ≡ true → list_all is_filled (take n vs) ≡ true
+pub taken_filled : (n : ℕ) (vs : List Value) → list_all is_filled vs ≡ true → list_all is_filled (take n vs) ≡ true
 taken_filled zero vs all = refl
 taken_filled (suc n) [] all = refl
 taken_filled (suc n) (v ∷ vs) all = let parts = and_parts (is_filled v) (list_all is_filled vs) all in and_from _ _ parts.0 (taken_filled n vs parts.1)

@@ -9,7 +9,7 @@ use Rattle.std.proofs.lemmas.Bool.Decides.{nat_tests}
 use Rattle.std.proofs.lemmas.List.{length-map, length-take-le}
 use Rattle.std.proofs.lemmas.List.Quantifiers.{position-Some}
 use Rattle.std.proofs.lemmas.Option.{slice_get-get_or, slice_get-map}
-use Rattle.wm_base.proofs.Plain.{none_mapped, option_or_parts}
+use Rattle.wm_base.proofs.Plain.{none_mapped, option_or_parts, and_last}
 use Rattle.wm_base.specs.Trees.{Expr}
 use Rattle.wm_base.specs.Value.{type_place, weight_of}
 use Rattle.wm_base.specs.declared.value.Value.{Value}
@@ -244,10 +244,6 @@ when_both : (a b : Bool) → (a && b) ≡ false → b ≡ true → a ≡ false
 when_both true b none there = absurd (cc)
 when_both false b none there = refl
 
-and_fails : (a b : Bool) → (a && b) ≡ false → a ≡ true → b ≡ false
-and_fails true b none there = none
-and_fails false b none there = absurd (cc)
-
 slice_get_within_not : (cs : List TableColumn) (p : ℕ) → p < length cs → slice_get cs p ≡ None → ⊥
 slice_get_within_not [] p near none = omega arith
 slice_get_within_not (c ∷ cs) zero near none = cc
@@ -278,7 +274,7 @@ stands t row order keyed none same typed =
     by_column one v there full light total (Some c) is =
         let zero_key : is_key_at t (0 + one.place) ≡ true = ap (λ n. is_key_at t n) (zero-add one.place) ∙ key_there t one in
         let not_light = or_parts (is_long c v) (is_key_at t (0 + one.place) && nat_lt 200 (weight_of v)) (none_so (is_heavy t) 0 t.columns row light one.place c v is there) in
-        let light_key : nat_lt 200 (weight_of v) ≡ false = and_fails (is_key_at t (0 + one.place)) (nat_lt 200 (weight_of v)) not_light.1 zero_key in
+        let light_key : nat_lt 200 (weight_of v) ≡ false = and_last (is_key_at t (0 + one.place)) (nat_lt 200 (weight_of v)) zero_key not_light.1 in
         let not_null : is_null v ≡ false = when_both (is_null v) (c.not_null || is_key_at t (0 + one.place)) (none_so (lacks_value t) 0 t.columns row full one.place c v is there) (or_right c.not_null (is_key_at t (0 + one.place)) zero_key) in
         let small : nat_le (weight (v ∷ [])) 200 ≡ true = light_value v (le-leb (weight_of v) 200 (ltb-false 200 (weight_of v) light_key)) in
         let key : key_of t row ≡ Some (v ∷ []) = key_alone t one row ∙ ap (option_map (λ (w : Value). w ∷ [])) there in

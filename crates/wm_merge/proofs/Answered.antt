@@ -1,6 +1,7 @@
 -- What is told of plans that only answer, and of the tests that lead to them.
 use Rattle.std.proofs.Common.{◌≡◌, ◌⊎◌, ⊎_elim, inl, inr, ℕ, ◌+◌, nat_lt, Bool, true, false, not, ◌&&◌, List, [], map, length, IfSome, IfNone, Option, Some, None, refl, sym, ap, ◌∙◌, subst}
 use Rattle.std.proofs.lemmas.List.{length-map}
+use Rattle.std.proofs.lemmas.Bool.{and_parts, true≢false}
 use Rattle.std.specs.List.{list_any}
 use Rattle.std.specs.Option.{option_map}
 use Rattle.wm_graph.specs.Parts.{Parts}
@@ -13,7 +14,6 @@ use Rattle.wm_state.specs.Drafts.{is_turn}
 use Rattle.wm_state.specs.Editing.{counter_limit, entry_of, number_limit}
 use Rattle.wm_state.specs.State.{Session, State}
 use Rattle.wm_state.specs.declared.edit.NewEntry.{NewEntry}
-use Rattle.wm_state.proofs.Tests.{bool_apart, both}
 use Rattle.wm_telling.specs.Telling.{IsFirstClash, IsHeldListing, clash_held}
 use Rattle.wm_pending.specs.declared.clash.Clash.{Clash}
 use Rattle.wm_model.specs.Merged.{IsClash}
@@ -52,12 +52,12 @@ listed_test log_length es b test = ap (λ k. nat_lt counter_limit (log_length + 
 
 pub first_holds : (a b : Bool) → true ≡ (a && not b) → (a ≡ true) × (b ≡ false)
 first_holds true false e = (refl, refl)
-first_holds true true e = absurd (bool_apart e)
-first_holds false b e = absurd (bool_apart e)
+first_holds true true e = absurd (true≢false e)
+first_holds false b e = absurd (true≢false e)
 
 one_fails : (a b : Bool) → false ≡ (a && not b) → (a ≡ false) ⊎ (b ≡ true)
 one_fails true true e = inr refl
-one_fails true false e = absurd (bool_apart (sym e))
+one_fails true false e = absurd (true≢false (sym e))
 one_fails false b e = inl refl
 
 -- ---- the turn of the next rebase
@@ -70,4 +70,4 @@ pub turn_free : (p : Parts) (a : Space) → nat_lt number_limit (a.rebases + 1) 
 turn_free p a left free = sym (ap (λ b. not b && turn_there p a) left) ∙ free
 
 pub lacks_or_turned : (b : Bool) (p : Parts) (a : Space) → false ≡ (b && not (has_next_turn p a)) → (b ≡ false) ⊎ (list_any (is_turn a.number (a.rebases + 1)) p.turns ≡ true)
-lacks_or_turned b p a test = ⊎_elim (λ e. inl e) (λ e. inr (both (not (nat_lt number_limit (a.rebases + 1))) (turn_there p a) e).1) (one_fails b (has_next_turn p a) test)
+lacks_or_turned b p a test = ⊎_elim (λ e. inl e) (λ e. inr (and_parts (not (nat_lt number_limit (a.rebases + 1))) (turn_there p a) e).1) (one_fails b (has_next_turn p a) test)

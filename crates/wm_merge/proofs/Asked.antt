@@ -1,6 +1,6 @@
 -- What is asked before the edits of a refresh, where nothing refuses it and its entries can be written again.
 use Rattle.std.proofs.Common.{◌≡◌, ℕ, ◌+◌, ◌≤◌, ◌==◌, nat_lt, Bool, true, false, if◌then◌else◌, List, [], ◌∷◌, map, length, Option, Some, refl, ap, ◌∙◌, arith}
-use Rattle.std.proofs.lemmas.Bool.{ne_eqb}
+use Rattle.std.proofs.lemmas.Bool.{ne_eqb, and_parts}
 use Rattle.std.proofs.lemmas.Bool.Decides.{nat_tests}
 use Rattle.std.proofs.lemmas.List.{length-map}
 use Rattle.std.proofs.lemmas.List.Elements.{All-weaker}
@@ -26,7 +26,7 @@ use Rattle.wm_state.specs.declared.edit.Edit.TheVariants as edits
 use Rattle.wm_state.specs.declared.edit.NewEntry.{NewEntry}
 use Rattle.wm_state.proofs.Climbing.{parent_apart}
 use Rattle.wm_state.proofs.Named.{space_number}
-use Rattle.wm_state.proofs.Tests.{all_if, both}
+use Rattle.wm_state.proofs.Tests.{all_if}
 use Rattle.wm_gained.proofs.Merging.{can_refresh}
 use Rattle.wm_telling.specs.Telling.{AreFamily, IsHeldListing, gained_held}
 use Rattle.wm_telling.proofs.Replaying.{listed_copied, listed_old}
@@ -65,10 +65,10 @@ module _ (p : Parts) (m : ℕ) (user : List ℕ) (c : Counters) (rules : keep_ru
     (listing : IsHeldListing p m user f es) (ready : list_all (is_ready_entry p) es ≡ true) (some : nat_lt 0 (length es) ≡ true) (n : ℕ) (a : Space) (there : space_of p.spaces n ≡ Some a)
     (room : nat_lt counter_limit (a.log_length + length es) ≡ false) where
   old : AreOld p c es
-  old = listed_old p c m user f es rules one stores listing short (all_if (is_ready_entry p) (λ (e : Entry). is_ready p.tables e.table) (λ e is. (both (is_ready p.tables e.table) (can_keep_entry e) is).0) es ready)
+  old = listed_old p c m user f es rules one stores listing short (all_if (is_ready_entry p) (λ (e : Entry). is_ready p.tables e.table) (λ e is. (and_parts (is_ready p.tables e.table) (can_keep_entry e) is).0) es ready)
 
   kept : list_all can_keep_entry es ≡ true
-  kept = all_if (is_ready_entry p) can_keep_entry (λ e is. (both (is_ready p.tables e.table) (can_keep_entry e) is).1) es ready
+  kept = all_if (is_ready_entry p) can_keep_entry (λ e is. (and_parts (is_ready p.tables e.table) (can_keep_entry e) is).1) es ready
 
   pub can_gain : CanGain p n es
   can_gain = record {

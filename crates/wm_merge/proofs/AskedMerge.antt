@@ -1,6 +1,7 @@
 -- What is asked before the edits of a merge, where nothing refuses it and its entries can be written again.
 use Rattle.std.proofs.Common.{◌≡◌, ℕ, ◌+◌, ◌≤◌, ◌==◌, nat_lt, Bool, true, false, not, if◌then◌else◌, List, [], ◌∷◌, ◌++◌, map, length, Option, Some, None, is_some, refl, sym, ap, ◌∙◌, subst, arith}
 use Rattle.std.proofs.lemmas.List.{length-append}
+use Rattle.std.proofs.lemmas.Bool.{true≢false, not-true}
 use Rattle.std.specs.declared.alloc.Global.{Global}
 use Rattle.std.specs.declared.vec.Vec.{Vec}
 use Rattle.wm_base.specs.declared.instant.TheConstants.{END}
@@ -16,7 +17,6 @@ use Rattle.wm_state.specs.State.{Session}
 use Rattle.wm_state.specs.declared.edit.Edit.{Edit}
 use Rattle.wm_state.specs.declared.edit.Edit.TheVariants as edits
 use Rattle.wm_state.specs.declared.edit.NewEntry.{NewEntry}
-use Rattle.wm_state.proofs.Tests.{bool_apart}
 use Rattle.wm_gained.specs.Merging as edited
 use Rattle.wm_gained.proofs.Merging.{can_merge}
 use Rattle.wm_telling.specs.Telling.{gained_held, own_held}
@@ -130,20 +130,16 @@ module _ (rs : List Stored) (m : ℕ) (xs : List Session) (session : Session) (a
       some_space : {o : Option Space} → o ≡ Some a → is_some o ≡ true
       some_space e = ap is_some e
 
-  odd_of : (e : Bool) → not e ≡ true → e ≡ false
-  odd_of true is = absurd (bool_apart (sym is))
-  odd_of false is = refl
-
   rebases : not even ≡ true → CanRebase (parts_of rs) a.number true
   rebases odd =
-      let left = merge_left a b (map entry_of own.items) clear.rebasing (odd_of even odd) in
+      let left = merge_left a b (map entry_of own.items) clear.rebasing (not-true even odd) in
       record {
         some = merges.family.child;
         space = a;
         there = named_numbered rs workspace a merges.family.space;
         rebases = left;
         unturned = turn_free (parts_of rs) a left may.unturned;
-        kept = λ stays. absurd (bool_apart stays);
+        kept = λ stays. absurd (true≢false stays);
       }
 
   gains : (given : Vec NewEntry Global) → present (length entries.items == 0) entries ≡ Some given → CanGain (parts_of rs) a.number (map entry_of given.items)

@@ -1,7 +1,9 @@
 -- What holds where nothing refuses a line.
 use Rattle.std.proofs.Common.{◌≡◌, ◌+◌, ◌==◌, nat_le, nat_lt, Bool, true, false, ◌&&◌, if◌then◌else◌, List, ◌∷◌, Option, Some, None, is_some, refl, sym, ap, ◌∙◌, codes}
+use Rattle.std.proofs.lemmas.Bool.{true≢false}
 use Rattle.std.specs.List.{count_by, find}
 use Rattle.std.specs.Str.{bytes_eq}
+use Rattle.wm_base.proofs.Plain.{and_last}
 use Rattle.wm_base.specs.declared.refusal.Refusal.{Refusal}
 use Rattle.wm_graph.specs.Parts.{Parts, space_of}
 use Rattle.wm_print.specs.Texts.{Answer, Refused}
@@ -11,7 +13,6 @@ use Rattle.wm_state.specs.Drafts.{CanKeep}
 use Rattle.wm_state.specs.Points.{implicit_of}
 use Rattle.wm_state.specs.Standing.{saved_in}
 use Rattle.wm_state.specs.State.{Session}
-use Rattle.wm_state.proofs.Tests.{bool_apart}
 use Rattle.wm_model.specs.Merged.{Clashed, clash_fault, is_even_at, keeping_refusal, leaving_refusal, merging_refusal, naming_refusal, rebase_fault, refreshing_refusal}
 use Rattle.wm_model.specs.Undone.{resolving_refusal}
 use Rattle.wm_model.specs.Step.{Asked, at_its_end, first_fault, most_savepoints, number_limit, refused_if, savepoint_there}
@@ -33,11 +34,6 @@ not_refused true refusal none = cc
 
 some_answer : (b : Bool) (answer : Answer) (refusal : Refusal) → answer ≡ Refused refusal → refused_if b answer ≡ None → b ≡ false
 some_answer b answer refusal is none = not_refused b refusal (sym (ap (refused_if b) is) ∙ none)
-
--- the second test fails where the first holds
-second : (a b : Bool) → a ≡ true → (a && b) ≡ false → b ≡ false
-second true b first none = none
-second false b first none = absurd (bool_apart (sym first))
 
 -- ---- a refresh
 
@@ -86,13 +82,13 @@ can_keep keeps p b there naming keeping asked =
       there = there;
       room = record {
         new = unfound (find (λ (x : Savepoint). bytes_eq (implicit_of b) x.name) (saved_in p b.number))
-            (second keeps _ asked (some_answer (keeps && is_some (find (λ (x : Savepoint). bytes_eq (implicit_of b) x.name) (saved_in p b.number))) (savepoint_there (implicit_of b)) _ refl naming));
-        few = second keeps _ asked (some_answer (keeps && nat_le 4096 (count_by (λ (x : Savepoint). x.space == b.number) p.savepoints)) most_savepoints _ refl (none_first _ _ keeping));
+            (and_last keeps _ asked (some_answer (keeps && is_some (find (λ (x : Savepoint). bytes_eq (implicit_of b) x.name) (saved_in p b.number))) (savepoint_there (implicit_of b)) _ refl naming));
+        few = and_last keeps _ asked (some_answer (keeps && nat_le 4096 (count_by (λ (x : Savepoint). x.space == b.number) p.savepoints)) most_savepoints _ refl (none_first _ _ keeping));
       };
-      places = second keeps _ asked (some_answer (keeps && nat_lt number_limit (b.next_place + 1)) (at_its_end (codes "PLACE")) _ refl (none_first _ _ few));
-      implicits = second keeps _ asked (some_answer (keeps && nat_lt number_limit (b.next_implicit + 1)) (at_its_end (codes "ICP")) _ refl (none_first _ _ names));
+      places = and_last keeps _ asked (some_answer (keeps && nat_lt number_limit (b.next_place + 1)) (at_its_end (codes "PLACE")) _ refl (none_first _ _ few));
+      implicits = and_last keeps _ asked (some_answer (keeps && nat_lt number_limit (b.next_implicit + 1)) (at_its_end (codes "ICP")) _ refl (none_first _ _ names));
     }
   where
     unfound : (o : Option Savepoint) → is_some o ≡ false → o ≡ None
     unfound None none = refl
-    unfound (Some x) none = absurd (bool_apart none)
+    unfound (Some x) none = absurd (true≢false none)

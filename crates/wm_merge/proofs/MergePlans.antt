@@ -1,6 +1,7 @@
 -- What is told of the plans of a merge.
 use Rattle.std.proofs.Common.{◌≡◌, ◌⊎◌, ℕ, ◌+◌, ◌&&◌, not, nat_lt, max, Bool, true, false, List, map, Option, Result, Ok, Err, IfOk, sym, ap, ◌∙◌, arith}
 use Rattle.std.proofs.lemmas.Bool.Decides.{nat_tests}
+use Rattle.std.proofs.lemmas.Bool.{and_parts}
 use Rattle.std.specs.List.{list_all, list_any}
 use Rattle.wm_base.specs.declared.memory.Memory.{Memory}
 use Rattle.wm_base.specs.declared.refusal.Refusal.{Refusal}
@@ -16,7 +17,6 @@ use Rattle.wm_state.specs.Drafts.{is_turn}
 use Rattle.wm_state.specs.Editing.{entry_of}
 use Rattle.wm_state.specs.State.{Session}
 use Rattle.wm_state.specs.declared.edit.NewEntry.{NewEntry}
-use Rattle.wm_state.proofs.Tests.{both}
 use Rattle.wm_merge.specs.Views.{has_next_turn}
 use Rattle.wm_merge.proofs.Answered.{first_holds, lacks_or_turned}
 
@@ -38,7 +38,7 @@ module _ (rs : List Stored) (a : Space) (given_own own given es : List NewEntry)
   pub may_merge : true ≡ (can_write given_own given && not (has_next_turn (parts_of rs) a)) → MayMerge rs a (map entry_of own) (map entry_of es)
   may_merge test =
       let two = first_holds (can_write own es) (has_next_turn (parts_of rs) a) (test ∙ same_test) in
-      let ready = both (list_all (is_ready_entry (parts_of rs)) (map entry_of own)) (list_all (is_ready_entry (parts_of rs)) (map entry_of es)) two.0 in
+      let ready = and_parts (list_all (is_ready_entry (parts_of rs)) (map entry_of own)) (list_all (is_ready_entry (parts_of rs)) (map entry_of es)) two.0 in
       record { own_ready = ready.0; ready = ready.1; unturned = two.1 }
 
   pub lacks_merge : false ≡ (can_write given_own given && not (has_next_turn (parts_of rs) a)) → (can_write own es ≡ false) ⊎ (list_any (is_turn a.number (a.rebases + 1)) (parts_of rs).turns ≡ true)

@@ -1,6 +1,7 @@
 -- A workspace that is not LIVE, and its parent, whose record is there.
-use Rattle.std.proofs.Common.{◌≡◌, ℕ, ◌<◌, true, List, Option, Some, None, Bor, is_some, refl, sym, ap, ◌∙◌}
+use Rattle.std.proofs.Common.{◌≡◌, ℕ, ◌<◌, true, List, Option, Some, Bor, is_some, sym, ◌∙◌}
 use Rattle.std.specs.Option.{option_copied}
+use Rattle.wm_base.proofs.Plain.{copied_some}
 use Rattle.wm_graph.specs.Parts.{parts_of, space_of}
 use Rattle.wm_rebased.proofs.RebasingFields.{parent_recorded}
 use Rattle.wm_spec.specs.declared.record.space.Space.{Space}
@@ -9,14 +10,10 @@ use Rattle.wm_model.proofs.RollingLine.{named_numbered}
 use Rattle.wm_model.specs.Merged.{NamesFamily}
 use Rattle.wm_model.specs.Undone.{NamesSpace}
 
-same_copied : {A : Type 0} (r : Option (Bor A)) (o : Option A) → option_copied r ≡ o → is_some o ≡ true → is_some r ≡ true
-same_copied None o is some = ap is_some is ∙ some
-same_copied (Some x) o is some = refl
-
 -- the parent is found
 pub parent_found : (rs : List Stored) (workspace : List ℕ) (a : Space) (r : Option (Bor Space)) → NamesSpace rs workspace a → 0 < a.number → option_copied r ≡ space_of (parts_of rs).spaces a.parent → is_some r ≡ true
 parent_found rs workspace a r names child found =
-    same_copied r (space_of (parts_of rs).spaces a.parent) found (parent_recorded (parts_of rs) names.rules a.number a child (named_numbered rs workspace a names))
+    copied_some r (space_of (parts_of rs).spaces a.parent) found (parent_recorded (parts_of rs) names.rules a.number a child (named_numbered rs workspace a names))
 
 -- the two
 pub family_named : (rs : List Stored) (workspace : List ℕ) (a : Space) (r : Option (Bor Space)) (b : Space) → NamesSpace rs workspace a → 0 < a.number → option_copied r ≡ space_of (parts_of rs).spaces a.parent

@@ -1,5 +1,6 @@
 -- What is told of the plans of a refresh.
 use Rattle.std.proofs.Common.{◌≡◌, ◌⊎◌, ℕ, ◌+◌, ◌&&◌, not, Bool, true, false, List, [], map, Option, Some, None, Result, Ok, Err, IfOk, sym, ap, ◌∙◌}
+use Rattle.std.proofs.lemmas.Bool.{and_parts}
 use Rattle.std.specs.List.{list_all, list_any}
 use Rattle.std.specs.Option.{option_map_or}
 use Rattle.wm_base.specs.declared.memory.Memory.{Memory}
@@ -21,7 +22,6 @@ use Rattle.wm_state.specs.Drafts.{is_turn}
 use Rattle.wm_state.specs.Editing.{entry_of}
 use Rattle.wm_state.specs.State.{Session}
 use Rattle.wm_state.specs.declared.edit.NewEntry.{NewEntry}
-use Rattle.wm_state.proofs.Tests.{both}
 use Rattle.wm_telling.specs.Telling.{AreOwn}
 use Rattle.wm_merge.specs.Views.{has_next_turn}
 use Rattle.wm_merge.proofs.Answered.{first_holds, lacks_or_turned}
@@ -42,7 +42,7 @@ module _ (rs : List Stored) (a : Space) (ks : List KeyPieces) (given es : List N
   pub may_refresh : AreOwn (parts_of rs) a ks → true ≡ (can_write given && not (has_next_turn (parts_of rs) a)) → MayRefresh rs a ks (map entry_of es)
   may_refresh own test =
       let two = first_holds (can_write es) (has_next_turn (parts_of rs) a) (test ∙ ap (λ xs. can_write xs && not (has_next_turn (parts_of rs) a)) is) in
-      let ready = both (are_keys_kept ks) (list_all (is_ready_entry (parts_of rs)) (map entry_of es)) two.0 in
+      let ready = and_parts (are_keys_kept ks) (list_all (is_ready_entry (parts_of rs)) (map entry_of es)) two.0 in
       record { own = own; keys = ready.0; ready = ready.1; unturned = two.1 }
 
   pub lacks_refresh : false ≡ (can_write given && not (has_next_turn (parts_of rs) a)) → (can_write es ≡ false) ⊎ (list_any (is_turn a.number (a.rebases + 1)) (parts_of rs).turns ≡ true)

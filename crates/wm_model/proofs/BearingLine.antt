@@ -1,5 +1,7 @@
 -- What CreateWorkspace does to each state that the records stand for.
 use Rattle.std.proofs.Common.{◌≡◌, ℕ, ◌+◌, ◌++◌, ◌==◌, nat_lt, nat_le, Bool, true, false, List, [], ◌∷◌, length, Option, Some, None, unwrap_or, is_some, refl, sym, ap, subst, ◌∙◌, codes}
+use Rattle.std.proofs.lemmas.Option.{same_Some}
+use Rattle.std.proofs.lemmas.Bool.{true≢false}
 use Rattle.std.specs.Fmt.{decimal}
 use Rattle.std.specs.List.{find, count_by}
 use Rattle.std.specs.Option.{option_and_then, option_map}
@@ -21,14 +23,12 @@ use Rattle.wm_state.specs.declared.edit.Edit.TheVariants as edits
 use Rattle.wm_state.proofs.Named.{space_number}
 use Rattle.wm_forked.proofs.Points.{place_same, name_taken, name_free, few_same, made_there, made_nowhere}
 use Rattle.wm_state.proofs.Spaces.{IsSpace, space_is, named_space, named_no_space, next_space_same}
-use Rattle.wm_state.proofs.Tests.{bool_apart}
 use Rattle.wm_model.specs.Lawful.{IsAt}
 use Rattle.wm_model.specs.Planning.{StandsAt, Does, IsOpen, Stay}
 use Rattle.wm_model.specs.Saving.{BearsIn, BearsRoomy, MayBearIn}
 use Rattle.wm_model.specs.Step.{create_workspace, bear, bearing_faults, counting_faults, first_fault, unless, born, implicit_name, implicit_front, place_behind, saved_at, durably, is_name, names_no_workspace, workspace_there, savepoint_there, most_workspaces, most_savepoints, at_its_end, number_limit, counter_limit, line_work}
 use Rattle.wm_model.proofs.Doing.{does_nothing, does_edit, spent_at, not_spent_at}
 use Rattle.wm_model.proofs.Homes.{open_place}
-use Rattle.wm_model.proofs.Lawful.Lists.{one_some}
 use Rattle.wm_model.proofs.Lawful.Places.{saved_there}
 use Rattle.wm_model.proofs.SavingLine.{name_short}
 
@@ -158,11 +158,11 @@ does_standless rs xs m session a answer act among found none =
     does_nothing rs xs m answer act
     (λ s st. let h = space_is (parts_of rs) s.durable session.space a st.stands found in
     let p = open_place rs xs m s session st among in
-    let same : p.space ≡ h.workspace = one_some p.space h.workspace (sym p.is ∙ h.is.found) in
+    let same : p.space ≡ h.workspace = same_Some p.space h.workspace (sym p.is ∙ h.is.found) in
     let is : IsSpace (parts_of rs) s.durable a.number a h.workspace = subst (λ n. IsSpace (parts_of rs) s.durable n a h.workspace) (sym h.is.record_number) h.is in
     let there : is_some (saved_at m s.durable.spaces h.workspace session.stand (implicit_of a) true) ≡ true =
     saved_there m s.durable.spaces h.workspace session.stand (implicit_of a) true (subst (λ (w : Workspace). IsAt w session.stand) same p.stands) in
-    absurd (bool_apart (sym there ∙ ap (λ o. is_some o) (made_nowhere (parts_of rs) s.durable a h.workspace m session.stand (implicit_of a) true st.stands is none))))
+    absurd (true≢false (sym there ∙ ap (λ o. is_some o) (made_nowhere (parts_of rs) s.durable a h.workspace m session.stand (implicit_of a) true st.stands is none))))
 
 -- the savepoint that is made in the state
 record IsMade (s : State) (m : ℕ) (w : Workspace) (stand : Stand) : Type 0 where

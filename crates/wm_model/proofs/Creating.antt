@@ -1,6 +1,7 @@
 -- What CREATE TABLE does to each state that the records stand for.
 use Rattle.std.proofs.Common.{◌≡◌, ℕ, ◌+◌, nat_lt, nat_le, max, true, false, if◌then◌else◌, List, [], ◌∷◌, ◌++◌, length, Some, None, is_some, refl, sym, ap, ◌∙◌, arith, codes}
 use Rattle.std.proofs.lemmas.Slice.Eq.{bytes_eq-Decides}
+use Rattle.std.proofs.lemmas.Bool.{and_from, or_parts}
 use Rattle.std.specs.List.{list_all, list_any}
 use Rattle.std.specs.Str.{bytes_eq}
 use Rattle.wm_base.specs.declared.instant.TheConstants.{END}
@@ -18,7 +19,7 @@ use Rattle.wm_state.specs.State.{State, Session, table_named, next_table}
 use Rattle.wm_state.specs.declared.edit.Edit.TheVariants as edits
 use Rattle.wm_state.proofs.Mapped.{any-if, none-found}
 use Rattle.wm_state.proofs.Tables.{by_number-all, by_number-any, by_number-length}
-use Rattle.wm_state.proofs.Tests.{and_true, all_if, either_false}
+use Rattle.wm_state.proofs.Tests.{all_if}
 use Rattle.wm_model.specs.Step.{create, durably, counter_limit, line_work, unless, is_full, table_there, most_tables, at_its_end}
 use Rattle.wm_model.specs.Planning.{StandsAt, Does, Stay, named, tables_in}
 use Rattle.wm_model.proofs.Doing.{does_nothing, does_edit, spent_at, not_spent_at}
@@ -31,13 +32,13 @@ table_to_make rs name items = table_of (next_table (tables_in rs)) name items
 
 -- there is room for a table, and its number is one that a record may have
 pub is_room : (ts : List Table) → is_full ts ≡ false → (nat_le 256 (length ts) ≡ false) × (nat_lt 65535 (next_table ts) ≡ false)
-is_room ts room = either_false (nat_le 256 (length ts)) (nat_lt 65535 (next_table ts)) room
+is_room ts room = or_parts (nat_le 256 (length ts)) (nat_lt 65535 (next_table ts)) room
 
 -- all tables have smaller numbers than the next
 numbers_under : (ts : List Table) → list_all (λ (t : Table). nat_lt t.number (next_table ts)) ts ≡ true
 numbers_under [] = refl
 numbers_under (t ∷ ts) =
-    and_true (nat_lt t.number (max (t.number + 1) (next_table ts))) _ (first t.number (next_table ts))
+    and_from (nat_lt t.number (max (t.number + 1) (next_table ts))) _ (first t.number (next_table ts))
     (all_if (λ (u : Table). nat_lt u.number (next_table ts)) (λ (u : Table). nat_lt u.number (max (t.number + 1) (next_table ts))) (λ u lt. others u.number (next_table ts) (t.number + 1) lt) ts (numbers_under ts))
   where
     first : (a b : ℕ) → nat_lt a (max (a + 1) b) ≡ true

@@ -1,7 +1,7 @@
 -- Lines of pieces: what stands before the next LF, and what is cut off at it.
 use Rattle.std.proofs.Common.{ℕ, zero, suc, ◌≡◌, ◌<◌, ◌≤◌, ◌+◌, ◌==◌, nat_lt, Bool, true, false, cond, List, [], ◌∷◌, ◌++◌, length, map, take, refl, ap, sym, ◌∙◌, append_assoc, append-nil, length-append, arith}
 use Rattle.std.proofs.lemmas.List.{length-take-le}
-use Rattle.std.proofs.lemmas.Bool.{cond_both, cond-true, cond-false, lt-leb, le-leb, ltb-false}
+use Rattle.std.proofs.lemmas.Bool.{cond_both, cond-false, lt-leb, ltb-false}
 use Rattle.wm_model.specs.Lines.{parts, before_first, without_cr, fits_line, too_long, cap, capped, HasNoLf, held_more}
 
 -- bytes that stand before the first of the parts
@@ -53,9 +53,6 @@ length-without_cr (b ∷ c ∷ line) = omega (arith, length-without_cr (c ∷ li
 
 pub cap-long : (line : List ℕ) → 16384 < length line → cap line ≡ too_long
 cap-long line long = cond-false (fits_line line) line too_long (lt-leb (length line) 16384 long)
-
-pub cap-fits : (line : List ℕ) → length line ≤ 16384 → cap line ≡ line
-cap-fits line fits = cond-true (fits_line line) line too_long (le-leb (length line) 16384 fits)
 
 -- a line with more than 16,385 bytes does not fit, also without its CR
 pub cap-without_cr-long : (line : List ℕ) → 16385 < length line → cap (without_cr line) ≡ too_long

@@ -3,6 +3,7 @@ use Rattle.std.proofs.Common.{arith, ◌≡◌, ℕ, ◌<◌, ◌==◌, nat_le, 
 use Rattle.std.specs.List.{find}
 use Rattle.std.specs.Option.{option_map}
 use Rattle.std.specs.Str.{bytes_eq}
+use Rattle.wm_base.proofs.Plain.{nonzero}
 use Rattle.wm_graph.specs.Parts.{parts_of, space_of, table_of}
 use Rattle.wm_graph.specs.Rules.{keep_rules}
 use Rattle.wm_net.specs.Nets.{Stamped, net}
@@ -122,7 +123,7 @@ family rs xs m workspace a b s names st =
       above = r.above;
       beside = r.beside;
       line = λ to.
-          by_number rs xs m workspace a s to names.space st false (above a.number names.child)
+          by_number rs xs m workspace a s to names.space st false (nonzero a.number names.child)
           ∙ ap (λ (q : Workspace). to q h.workspace s) r.parent_is;
       base = r.base;
       child = names.child;
@@ -132,9 +133,6 @@ family rs xs m workspace a b s names st =
       own = sound_stamped l.entries.tells s.durable.next_stamp h.workspace.lists.own (l.entries.each a.number h.workspace h.is.found).own;
       log = sound_stamped l.entries.tells s.durable.next_stamp r.q.lists.log (l.entries.each b.number r.q r.above.found).log;
     }
-  where
-    above : (n : ℕ) → 0 < n → (n == 0) ≡ false
-    above n lt = grind (arith, lt)
 
 -- ---- several edits
 

@@ -1,12 +1,16 @@
 -- What is looked up among all workspaces, and among all savepoints of one, is looked up in the records: the first workspace that passes a
 -- test, and whether each savepoint stays where its workspace goes back to another.
 use Rattle.std.proofs.Common.{◌≡◌, ℕ, zero, suc, ◌+◌, ◌==◌, nat_lt, nat_le, max, Bool, true, false, not, ◌&&◌, ◌||◌, cond, List, [], ◌∷◌, map, Option, Some, None, is_some, refl, sym, ap, ◌∙◌, arith}
-use Rattle.std.proofs.lemmas.Bool.{eq-eqb, eqb-true}
+use Rattle.std.proofs.lemmas.Bool.{eq-eqb, eqb-true, true≢false}
+use Rattle.std.proofs.lemmas.Option.{same_Some}
+use Rattle.std.proofs.Math.Dec.{leb-zero}
 use Rattle.std.specs.Bool.{then_some}
 use Rattle.std.specs.List.{filter, find, list_all, list_any}
 use Rattle.std.specs.Option.{option_and_then, option_map, option_map_or, option_or}
+use Rattle.wm_base.proofs.Plain.{and_swap, nat_le-antisym, none_some}
 use Rattle.wm_graph.specs.Parts.{Parts, space_of}
 use Rattle.wm_graph.specs.Rules.{keep_rules}
+use Rattle.wm_model.proofs.Lawful.Firsts.{least_passes}
 use Rattle.wm_spec.specs.declared.record.savepoint.Savepoint.{Savepoint as Record}
 use Rattle.wm_spec.specs.declared.record.space.Space.{Space}
 use Rattle.wm_state.specs.Editing.{stays_at}
@@ -18,7 +22,6 @@ use Rattle.wm_state.proofs.Frames.{savepoints_of-found}
 use Rattle.wm_state.proofs.Mapped.{all-alike, all-found}
 use Rattle.wm_state.proofs.SavedAs.{IsSaved, made_some_there}
 use Rattle.wm_state.proofs.Spaces.{IsSpace, numbers_under, record_there, ruled_spaces, space_there}
-use Rattle.wm_state.proofs.Tests.{bool_apart}
 
 -- ---- the least number that passes
 
@@ -27,20 +30,6 @@ least_same : (n : ℕ) (f g : ℕ → Bool) → ((k : ℕ) → f k ≡ g k) → 
 unfolding least_below
 least_same zero f g same = refl
 least_same (suc n) f g same = ap (λ o. option_or o (then_some (f n) n)) (least_same n f g same) ∙ ap (λ b. option_or (least_below n g) (then_some b n)) (same n)
-
--- it passes
-least_passes : (n : ℕ) (test : ℕ → Bool) (k : ℕ) → least_below n test ≡ Some k → test k ≡ true
-unfolding least_below
-least_passes zero test k found = cc
-least_passes (suc n) test k found = by_rest (least_below n test) refl (test n) refl found (least_passes n test k)
-  where
-    some_number : (a b : ℕ) → Some a ≡ Some b → a ≡ b
-    some_number a b h = cc
-
-    by_rest : (o : Option ℕ) → least_below n test ≡ o → (b : Bool) → test n ≡ b → option_or o (then_some b n) ≡ Some k → (least_below n test ≡ Some k → test k ≡ true) → test k ≡ true
-    by_rest (Some i) is b e h rest = rest (is ∙ h)
-    by_rest None is true e h rest = ap test (sym (some_number n k h)) ∙ e
-    by_rest None is false e h rest = cc
 
 -- where there is none, no number below passes
 least_none : (n : ℕ) (test : ℕ → Bool) → least_below n test ≡ None → (k : ℕ) → nat_lt k n ≡ true → test k ≡ false
@@ -80,7 +69,7 @@ next_behind (w ∷ ws) = ap (max (w.number + 1)) (next_behind ws)
 
 -- what is found is below it
 found_below : {A : Type 0} (number : A → ℕ) (xs : List A) (n : ℕ) → is_some (find (λ x. number x == n) xs) ≡ true → nat_lt n (behind number xs) ≡ true
-found_below number [] n some = absurd (bool_apart (sym some))
+found_below number [] n some = absurd (true≢false (sym some))
 found_below {A = A} number (x ∷ xs) n some = by_test (number x == n) refl some (found_below number xs n)
   where
     here : (a b m : ℕ) → (a == m) ≡ true → nat_lt m (max (a + 1) b) ≡ true
@@ -96,10 +85,7 @@ found_below {A = A} number (x ∷ xs) n some = by_test (number x == n) refl some
 
 -- and it is the least number that all that are found are below
 behind_least : {A : Type 0} (number : A → ℕ) (xs : List A) (k : ℕ) → ((n : ℕ) → is_some (find (λ x. number x == n) xs) ≡ true → nat_lt n k ≡ true) → nat_le (behind number xs) k ≡ true
-behind_least number [] k each = zero_under k
-  where
-    zero_under : (m : ℕ) → nat_le 0 m ≡ true
-    zero_under m = grind arith
+behind_least number [] k each = leb-zero k
 behind_least {A = A} number (x ∷ xs) k each =
     next_both (number x) (behind number xs) k (each (number x) (rw (eq-eqb (number x) (number x) refl) refl)) (behind_least number xs k (λ n some. each n (still n (number x == n) some)))
   where
@@ -113,10 +99,7 @@ behind_least {A = A} number (x ∷ xs) k each =
 -- so it is one where the same numbers are found
 behind_same : {A B : Type 0} (f : A → ℕ) (g : B → ℕ) (xs : List A) (ys : List B) → ((n : ℕ) → is_some (find (λ x. f x == n) xs) ≡ is_some (find (λ y. g y == n) ys)) → behind f xs ≡ behind g ys
 behind_same f g xs ys same =
-    one_number (behind f xs) (behind g ys) (behind_least f xs (behind g ys) (λ n some. found_below g ys n (sym (same n) ∙ some))) (behind_least g ys (behind f xs) (λ n some. found_below f xs n (same n ∙ some)))
-  where
-    one_number : (a b : ℕ) → nat_le a b ≡ true → nat_le b a ≡ true → a ≡ b
-    one_number a b le also = grind (arith, le, also)
+    nat_le-antisym (behind f xs) (behind g ys) (behind_least f xs (behind g ys) (λ n some. found_below g ys n (sym (same n) ∙ some))) (behind_least g ys (behind f xs) (λ n some. found_below f xs n (same n ∙ some)))
 
 -- ---- workspaces and their records
 
@@ -128,13 +111,10 @@ data Alike (p : Parts) (d : Durable) (n : ℕ) : Type 0 where
 alike : (p : Parts) (d : Durable) → SpacesStand p d → (n : ℕ) → Alike p d n
 alike p d st n = by_record (space_of p.spaces n) refl (workspace_of d.spaces n) refl
   where
-    apart : (o : Option Space) (r : Space) → o ≡ None → o ≡ Some r → ⊥
-    apart o r none some = cc
-
     by_record : (o : Option Space) → space_of p.spaces n ≡ o → (q : Option Workspace) → workspace_of d.spaces n ≡ q → Alike p d n
     by_record (Some r) recorded q found = let h = space_there p d n r st recorded in Both h.workspace r h.is
     by_record None none None found = Neither found none
-    by_record None none (Some w) found = let h = record_there p d n w st found in absurd (apart (space_of p.spaces n) h.recorded none h.is.recorded)
+    by_record None none (Some w) found = let h = record_there p d n w st found in absurd (none_some (space_of p.spaces n) h.recorded none h.is.recorded)
 
 module _ (p : Parts) (d : Durable) (st : FieldsStand p d) (P : Workspace → Bool) (Q : Space → Bool) (says : (n : ℕ) (w : Workspace) (r : Space) → workspace_of d.spaces n ≡ Some w → space_of p.spaces n ≡ Some r → P w ≡ Q r) where
   tests_same : (n : ℕ) → Alike p d n → option_map_or P (workspace_of d.spaces n) false ≡ option_map_or Q (space_of p.spaces n) false
@@ -174,11 +154,6 @@ pub first_same : (p : Parts) (d : Durable) → FieldsStand p d → (P : Workspac
     → option_map (λ (w : Workspace). w.name) (first_space P d.spaces) ≡ option_map (λ (r : Space). r.name) (first_recorded Q p.spaces)
 first_same p d st P Q says = first_alike p d st P Q says (λ (w : Workspace). w.name) (λ (r : Space). r.name) (λ n w r is. ap (λ (f : SpaceFields). f.name) (sym is.fields))
 
--- and of the same number
-pub first_numbered : (p : Parts) (d : Durable) → FieldsStand p d → (P : Workspace → Bool) (Q : Space → Bool) → ((n : ℕ) (w : Workspace) (r : Space) → workspace_of d.spaces n ≡ Some w → space_of p.spaces n ≡ Some r → P w ≡ Q r)
-    → option_map (λ (w : Workspace). w.number) (first_space P d.spaces) ≡ option_map (λ (r : Space). r.number) (first_recorded Q p.spaces)
-first_numbered p d st P Q says = first_alike p d st P Q says (λ (w : Workspace). w.number) (λ (r : Space). r.number) (λ n w r is. is.number ∙ sym is.record_number)
-
 -- where no record is the first, none passes
 pub none_first : (p : Parts) (Q : Space → Bool) → keep_rules p ≡ true → first_recorded Q p.spaces ≡ None → list_all (λ (r : Space). not (Q r)) p.spaces ≡ true
 none_first p Q rules none = all-found (λ (r : Space). r.number) (λ (r : Space). not (Q r)) p.spaces (ruled_spaces p rules).numbers (λ n r found. ap not (fails n r found))
@@ -188,7 +163,7 @@ none_first p Q rules none = all-found (λ (r : Space). r.number) (λ (r : Space)
 
     by_number : (o : Option ℕ) → least_below (space_after p.spaces) test ≡ o → option_and_then (space_of p.spaces) o ≡ None → o ≡ None
     by_number None is h = refl
-    by_number (Some k) is h = absurd (bool_apart (sym (least_passes (space_after p.spaces) test k is) ∙ ap (λ o. option_map_or Q o false) h))
+    by_number (Some k) is h = absurd (true≢false (sym (least_passes (space_after p.spaces) test k is) ∙ ap (λ o. option_map_or Q o false) h))
 
     under : (n : ℕ) (r : Space) → space_of p.spaces n ≡ Some r → nat_lt n (space_after p.spaces) ≡ true
     under n r found =
@@ -208,13 +183,8 @@ all_placed : (R : Record → Bool) (y : Record) (ys : List Record) → list_all 
 all_placed R y [] = refl
 all_placed R y (z ∷ zs) = by_test (nat_lt z.making y.making) (all_placed R y zs)
   where
-    swap : (a b c : Bool) → (a && (b && c)) ≡ (b && (a && c))
-    swap true b c = refl
-    swap false true c = refl
-    swap false false c = refl
-
     by_test : (b : Bool) → list_all R (place_making y zs) ≡ (R y && list_all R zs) → list_all R (cond b (z ∷ place_making y zs) (y ∷ z ∷ zs)) ≡ (R y && (R z && list_all R zs))
-    by_test true rest = ap (λ b. R z && b) rest ∙ swap (R z) (R y) (list_all R zs)
+    by_test true rest = ap (λ b. R z && b) rest ∙ and_swap (R z) (R y) (list_all R zs)
     by_test false rest = refl
 
 all_made : (R : Record → Bool) (xs : List Record) → list_all R (by_making xs) ≡ list_all R xs
@@ -236,9 +206,6 @@ pub no_savepoint_behind : (p : Parts) (d : Durable) → FieldsStand p d → keep
     → saved_as p n making ≡ Some x → list_all (stays_at k) w.savepoints ≡ not (list_any (λ (y : Record). (y.space == n) && not (nat_le y.place x.place && nat_le y.log_length x.log_length)) p.savepoints)
 no_savepoint_behind p d st rules n making w k x found made saved = by_savepoint (made_some_there p d n w rules st.savepoints found making x saved)
   where
-    some_savepoint : (i j : Savepoint) → Some i ≡ Some j → i ≡ j
-    some_savepoint i j h = cc
-
     -- a savepoint of these fields stays at one of those
     stays : SavepointFields → SavepointFields → Bool
     stays f g = nat_le g.place f.place && nat_le g.log_length f.log_length
@@ -252,4 +219,4 @@ no_savepoint_behind p d st rules n making w k x found made saved = by_savepoint 
 
     by_savepoint : ((j : Savepoint) × (savepoint_made making w.savepoints ≡ Some j) × IsSaved p n w x j)
         → list_all (stays_at k) w.savepoints ≡ not (list_any (λ (y : Record). (y.space == n) && not (nat_le y.place x.place && nat_le y.log_length x.log_length)) p.savepoints)
-    by_savepoint (j, is, saves) = by_fields (saves.fields ∙ ap fields_saved (some_savepoint j k (sym is ∙ made)))
+    by_savepoint (j, is, saves) = by_fields (saves.fields ∙ ap fields_saved (same_Some j k (sym is ∙ made)))

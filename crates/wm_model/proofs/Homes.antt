@@ -1,18 +1,18 @@
 -- The tables and workspaces that lines name, in the records and in each state that they stand for.
-use Rattle.std.proofs.Common.{◌≡◌, ℕ, true, List, [], Option, Some, None, is_some, refl, sym, ap, subst, ◌∙◌}
+use Rattle.std.proofs.Common.{◌≡◌, ℕ, true, List, [], Option, Some, None, is_some, refl, sym, ap, ◌∙◌}
+use Rattle.std.proofs.lemmas.Option.{same_Some}
+use Rattle.std.proofs.lemmas.Bool.{true≢false}
 use Rattle.std.specs.Option.{option_map}
+use Rattle.wm_base.proofs.Plain.{none_some}
 use Rattle.wm_graph.specs.Parts.{Parts, parts_of, space_of}
 use Rattle.wm_print.specs.Texts.{Answer}
-use Rattle.wm_spec.specs.declared.record.savepoint.Savepoint.{Savepoint as Record}
 use Rattle.wm_spec.specs.declared.record.space.Space.{Space}
 use Rattle.wm_spec.specs.declared.record.stored.Stored.{Stored}
 use Rattle.wm_spec.specs.declared.record.table.Table.{Table}
-use Rattle.wm_state.specs.State.{Durable, State, Session, Workspace, At, Stand, savepoint_made, table_named, workspace_of}
-use Rattle.wm_state.specs.Standing.{SpaceFields, SpacesStand, fields_of, fields_in, saved_as}
-use Rattle.wm_state.proofs.SavedAs.{made_none}
-use Rattle.wm_state.proofs.Tests.{bool_apart}
+use Rattle.wm_state.specs.State.{Durable, State, Session, Workspace, table_named, workspace_of}
+use Rattle.wm_state.specs.Standing.{SpaceFields, SpacesStand, fields_of, fields_in}
 use Rattle.wm_model.specs.Step.{at_home, session_of, with_table, no_table}
-use Rattle.wm_model.specs.Lawful.{IsAt, IsPlace}
+use Rattle.wm_model.specs.Lawful.{IsPlace}
 use Rattle.wm_model.specs.Planning.{Does, IsOpen, StandsAt, Stay, named}
 use Rattle.wm_model.proofs.Doing.{does_nothing}
 use Rattle.wm_model.proofs.Lawful.Places.{place_of}
@@ -38,22 +38,13 @@ pub record HomeIs (s : State) (n : ℕ) (r : Space) : Type 0 where
 pub home_is : (rs : List Stored) (xs : List Session) (m : ℕ) (s : State) (n : ℕ) (r : Space) → StandsAt rs xs m s → space_of (parts_of rs).spaces n ≡ Some r → HomeIs s n r
 home_is rs xs m s n r st found = by_space (workspace_of s.durable.spaces n) refl (sym (ap (option_map fields_of) found) ∙ st.stands.spaces.same n)
   where
-    some_fields : (f g : SpaceFields) → Some f ≡ Some g → f ≡ g
-    some_fields f g h = cc
-
-    none_some : (o : Option SpaceFields) → o ≡ None → o ≡ Some (fields_of r) → ⊥
-    none_some o none some = cc
-
     by_space : (o : Option Workspace) → workspace_of s.durable.spaces n ≡ o → Some (fields_of r) ≡ option_map fields_in (workspace_of s.durable.spaces n) → HomeIs s n r
-    by_space None none same = absurd (none_some (option_map fields_in (workspace_of s.durable.spaces n)) (ap (option_map fields_in) none) (sym same))
-    by_space (Some w) is same = record { space = w; is = is; fields = some_fields (fields_of r) (fields_in w) (same ∙ ap (option_map fields_in) is); number = number_is s.durable.spaces n w is }
+    by_space None none same = absurd (none_some (option_map fields_in (workspace_of s.durable.spaces n)) (fields_of r) (ap (option_map fields_in) none) (sym same))
+    by_space (Some w) is same = record { space = w; is = is; fields = same_Some (fields_of r) (fields_in w) (same ∙ ap (option_map fields_in) is); number = number_is s.durable.spaces n w is }
 
 no_home : (p : Parts) (s : Durable) (n : ℕ) → SpacesStand p s → space_of p.spaces n ≡ None → workspace_of s.spaces n ≡ None
 no_home p s n stand none = by_space (workspace_of s.spaces n) refl (sym (ap (option_map fields_of) none) ∙ stand.same n)
   where
-    none_some : (o : Option SpaceFields) (f : SpaceFields) → o ≡ None → o ≡ Some f → ⊥
-    none_some o f none some = cc
-
     by_space : (o : Option Workspace) → workspace_of s.spaces n ≡ o → (let nothing : Option SpaceFields = None in nothing) ≡ option_map fields_in (workspace_of s.spaces n) → workspace_of s.spaces n ≡ None
     by_space None is same = is
     by_space (Some w) is same = absurd (none_some (option_map fields_in (workspace_of s.spaces n)) (fields_in w) (sym same) (ap (option_map fields_in) is))
@@ -72,29 +63,14 @@ open_place rs xs m s session st among = place_of s among.name session st.lawful 
 pub home_recorded : (rs : List Stored) (xs : List Session) (m : ℕ) (s : State) (session : Session) → StandsAt rs xs m s → IsOpen xs session → is_some (space_of (parts_of rs).spaces session.space) ≡ true
 home_recorded rs xs m s session st among = by_record (space_of (parts_of rs).spaces session.space) refl
   where
-    none_some : (o : Option Workspace) (w : Workspace) → o ≡ None → o ≡ Some w → ⊥
-    none_some o w none some = cc
-
     by_record : (o : Option Space) → space_of (parts_of rs).spaces session.space ≡ o → is_some o ≡ true
     by_record None none =
         let p = open_place rs xs m s session st among in
         absurd (none_some (workspace_of s.durable.spaces session.space) p.space (no_home (parts_of rs) s.durable session.space st.stands.spaces none) p.is)
     by_record (Some r) some = refl
 
--- and so has its savepoint
-pub stand_recorded : (rs : List Stored) (xs : List Session) (m : ℕ) (s : State) (session : Session) (making : ℕ) → StandsAt rs xs m s → IsOpen xs session → session.stand ≡ At making
-    → is_some (saved_as (parts_of rs) session.space making) ≡ true
-stand_recorded rs xs m s session making st among at = by_record (saved_as (parts_of rs) session.space making) refl (subst (λ (stand : Stand). IsAt p.space stand) at p.stands)
-  where
-    p : IsPlace s.durable.spaces session.space session.stand
-    p = open_place rs xs m s session st among
-
-    by_record : (o : Option Record) → saved_as (parts_of rs) session.space making ≡ o → is_some (savepoint_made making p.space.savepoints) ≡ true → is_some o ≡ true
-    by_record None none there = sym (ap (λ o. is_some o) (made_none (parts_of rs) s.durable session.space p.space st.stands p.is making none)) ∙ there
-    by_record (Some x) some there = refl
-
 -- so what is done where there is none does whatever is said
 pub does_homeless : (rs : List Stored) (xs : List Session) (m : ℕ) (session : Session) (answer : Answer) (act : State → State × Answer) → IsOpen xs session → space_of (parts_of rs).spaces session.space ≡ None
     → Does rs xs m [] Stay answer act
 does_homeless rs xs m session answer act among none =
-    does_nothing rs xs m answer act (λ s st. absurd (bool_apart (sym (home_recorded rs xs m s session st among) ∙ ap (λ o. is_some o) none)))
+    does_nothing rs xs m answer act (λ s st. absurd (true≢false (sym (home_recorded rs xs m s session st among) ∙ ap (λ o. is_some o) none)))

@@ -19,7 +19,6 @@ pub mod Timing
 pub mod Filled
 pub mod Lawful
 pub mod Telling
-pub mod Given
 pub mod FirstChild
 pub mod RollingLine
 pub mod RemovingLine

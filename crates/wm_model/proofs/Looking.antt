@@ -1,6 +1,8 @@
 -- What a session sees in each state that the records stand for, by what it looks at.
-use Rattle.std.proofs.Common.{arith, ◌≡◌, ℕ, ◌<◌, ◌==◌, ◌&&◌, not, Bool, true, false, if◌then◌else◌, List, [], ◌∷◌, Option, Some, None, is_some, unwrap_or, refl, sym, ap, subst, ◌∙◌}
+use Rattle.std.proofs.Common.{◌≡◌, ℕ, ◌==◌, ◌&&◌, not, Bool, true, false, if◌then◌else◌, List, [], ◌∷◌, Option, Some, None, is_some, unwrap_or, refl, sym, ap, subst, ◌∙◌}
+use Rattle.std.proofs.lemmas.Bool.{not-false}
 use Rattle.std.specs.Option.{option_map_or}
+use Rattle.wm_base.proofs.Plain.{nonzero}
 use Rattle.wm_base.specs.Period.{Span}
 use Rattle.wm_base.specs.declared.columns.Column.{Column}
 use Rattle.wm_base.specs.declared.listing.Listing.{Listing as Source}
@@ -113,10 +115,7 @@ conflicts_seen rs xs m s a w t (Some x) rows st is family are =
     let r = related rs xs m a x.1 s w is family.1.0 family.1.1 st in
     conflict_view_is (parts_of rs) s.durable a.number w r.q a x.1 t rows r.beside r.base r.rows (subst (λ (k : Space). IsConflictView (parts_of rs) k x.1 t rows) family.0 are)
     ∙ ap (λ (q : Workspace). conflict_view q w t) (sym r.parent_is)
-    ∙ sym (ap (λ (b : Bool). if b then [] else conflict_view (parent_in s w) w t) (ap (λ (n : ℕ). n == 0) is.number ∙ above a.number family.1.0))
-  where
-    above : (n : ℕ) → 0 < n → (n == 0) ≡ false
-    above n lt = grind (arith, lt)
+    ∙ sym (ap (λ (b : Bool). if b then [] else conflict_view (parent_in s w) w t) (ap (λ (n : ℕ). n == 0) is.number ∙ nonzero a.number family.1.0))
 
 -- ---- the sources of a query
 
@@ -145,11 +144,7 @@ view_seen rs xs m session look s w Conflicts t rows at there kept are =
     let c = conflicting_is rs s session.conflict w look.home at.stands.stands (subst (λ (n : ℕ). IsSpace (parts_of rs) s.durable n look.home w) (sym at.home.record_number) at.home) in
     conflicts_seen rs xs m s (conflicting_space (parts_of rs).spaces session.conflict look.home) c.workspace t look.family rows at.stands c.is at.is.family are ∙ ap (λ (v : Workspace). conflicts_shown s v t) (sym c.named)
 view_seen rs xs m session look s w History t rows at there kept are =
-    history_view_is (parts_of rs) s.durable session.space w look.home t rows at.stands.stands at.home.found at.home.recorded there (is_kept t.history kept) are
-  where
-    is_kept : (b : Bool) → not b ≡ false → b ≡ true
-    is_kept true e = refl
-    is_kept false e = sym e
+    history_view_is (parts_of rs) s.durable session.space w look.home t rows at.stands.stands at.home.found at.home.recorded there (not-false t.history kept) are
 
 -- what was listed of each source is what the state shows
 pub sources_seen : (rs : List Stored) (xs : List Session) (m : ℕ) (session : Session) (look : Look) (s : State) (w : Workspace) (sources : List Src) (ls : List Source) → LooksAt rs xs m session look s w

@@ -1,5 +1,6 @@
 -- What MergeWorkspace does to each state that the records stand for.
 use Rattle.std.proofs.Common.{◌≡◌, ℕ, ◌+◌, ◌==◌, ◌&&◌, ◌||◌, not, max, nat_lt, length, Bool, true, false, cond, List, [], ◌∷◌, map, Option, Some, None, sym, ap, ◌∙◌, codes, arith, ◌⊎◌, inl, inr}
+use Rattle.std.proofs.lemmas.Bool.{and_from, and_parts, true≢false}
 use Rattle.std.specs.List.{find, list_all, list_any}
 use Rattle.std.specs.Str.{bytes_eq}
 use Rattle.std.specs.declared.alloc.Global.{Global}
@@ -18,7 +19,6 @@ use Rattle.wm_state.specs.Editing.{all_edited, entry_of}
 use Rattle.wm_state.specs.Standing.{SpaceFields}
 use Rattle.wm_state.specs.State.{Durable, Session, State, Workspace, workspace_of}
 use Rattle.wm_state.specs.declared.edit.NewEntry.{NewEntry}
-use Rattle.wm_state.proofs.Tests.{and_true, bool_apart, both}
 use Rattle.wm_telling.specs.Telling.{IsHeldListing, own_held}
 use Rattle.wm_model.specs.Merged.{Clashed, IsClash, Merges, NamesFamily, is_even_at, is_quiet_at, is_ready_entry, longer_log_at, merge_edits, merging_refusal}
 use Rattle.wm_model.specs.Planning.{StandsAt, Does, Stay}
@@ -112,12 +112,12 @@ merge_unready rs xs m session workspace asked a b own es answer r bad =
     never : (s : State) → StandsAt rs xs m s → Family rs workspace a b s
         → ((list_all (is_ready_entry (parts_of rs)) own && list_all (is_ready_entry (parts_of rs)) es) ≡ false) ⊎ (list_any (is_turn a.number (a.rebases + 1)) (parts_of rs).turns ≡ true) → ⊥
     never s st f (inl unready) =
-        bool_apart
-        (sym (and_true (list_all (is_ready_entry (parts_of rs)) own) _
+        true≢false
+        (sym (and_from (list_all (is_ready_entry (parts_of rs)) own) _
         (ap (list_all (is_ready_entry (parts_of rs))) (own_same rs workspace a b s f m session.user own r.own_listed) ∙ net_ready rs workspace a b xs m s st f m session.user)
         (ap (list_all (is_ready_entry (parts_of rs))) (gained_same rs workspace a b s f m session.user es r.gained_listed) ∙ gained_ready rs workspace a b xs m s st f m session.user))
         ∙ unready)
-    never s st f (inr turned) = bool_apart (sym turned ∙ unturned rs workspace a b xs m s st f)
+    never s st f (inr turned) = true≢false (sym turned ∙ unturned rs workspace a b xs m s st f)
 
 pub does_merge : (rs : List Stored) (xs : List Session) (m : ℕ) (session : Session) (workspace : List ℕ) (asked : Asked) (a b : Space) (c : Counters) (own es : Vec NewEntry Global)
     → Merges rs m xs session asked workspace a b (map entry_of own.items) (map entry_of es.items) → (is_even_at a b (map entry_of own.items) && not (asked.keeps || asked.removes)) ≡ false
@@ -141,4 +141,4 @@ does_merge rs xs m session workspace asked a b c own es r some can short one spa
         ∙ ap (λ k. all_edited m (merge_edits asked even f.w.number k own es) s.durable) (sym f.above.number)
         ∙ all_merged m f.w f.q s.durable (ap (workspace_of s.durable.spaces) f.is.number ∙ f.is.found) (ap (workspace_of s.durable.spaces) f.above.number ∙ f.above.found) f.parent
         (λ same. absurd (omega (arith, same, f.older))) asked even own es
-        (λ is. nothing_listed (map entry_of own.items) (both (length (map entry_of own.items) == 0) (is_quiet_at a b) is).0)
+        (λ is. nothing_listed (map entry_of own.items) (and_parts (length (map entry_of own.items) == 0) (is_quiet_at a b) is).0)

@@ -1,6 +1,7 @@
 -- What RefreshWorkspace does to each state that the records stand for.
 use Rattle.std.proofs.Common.{◌≡◌, ℕ, ◌+◌, ◌≤◌, ◌&&◌, not, nat_le, nat_lt, length, Bool, true, false, cond, List, [], ◌∷◌, map, Option, Some, None, is_some, refl, sym, ap, ◌∙◌, codes, arith, ◌⊎◌, inl, inr}
 use Rattle.std.proofs.lemmas.List.{length-map}
+use Rattle.std.proofs.lemmas.Bool.{and_from, true≢false}
 use Rattle.std.specs.Bool.{then_some}
 use Rattle.std.specs.List.{find, list_all, list_any}
 use Rattle.std.specs.Str.{bytes_eq}
@@ -10,7 +11,8 @@ use Rattle.wm_base.specs.declared.refusal.Refusal.{Refusal as Fault}
 use Rattle.wm_graph.specs.Parts.{parts_of}
 use Rattle.wm_graph.specs.Rules.{keep_rules}
 use Rattle.wm_print.specs.Texts.{Answer, Fine, Refused}
-use Rattle.wm_spec.specs.Lists.{Cell, Entry, covers, reach, touched}
+use Rattle.wm_spec.proofs.Reaching.{reach_within}
+use Rattle.wm_spec.specs.Lists.{Cell, Entry, reach}
 use Rattle.wm_spec.specs.declared.record.counters.Counters.{Counters}
 use Rattle.wm_spec.specs.declared.record.space.Space.{Space}
 use Rattle.wm_spec.specs.declared.record.stored.Stored.{Stored}
@@ -20,7 +22,6 @@ use Rattle.wm_state.specs.Editing.{all_edited, entry_of}
 use Rattle.wm_state.specs.Standing.{SpaceFields}
 use Rattle.wm_state.specs.State.{Durable, Session, State, Workspace, with_space, workspace_of}
 use Rattle.wm_state.specs.declared.edit.NewEntry.{NewEntry}
-use Rattle.wm_state.proofs.Tests.{and_true, bool_apart}
 use Rattle.wm_telling.specs.Telling.{AreOwn, clash_held, is_unsettled, own_held, stamps_of}
 use Rattle.wm_telling.proofs.Beside.{pending_reach}
 use Rattle.wm_model.specs.Merged.{Clashed, IsClash, NamesFamily, Refreshes, are_keys_kept, clash_fault, is_quiet_at, is_ready_entry, refresh_edits, refreshing_refusal}
@@ -69,19 +70,6 @@ module _ (rs : List Stored) (xs : List Session) (m : ℕ) (workspace : List ℕ)
   by_refusal session o is = f.line (refresh_to session) ∙ ap (λ r. unless r s (refresh session f.q f.w s)) is
 
 -- ---- a parent that changed nothing
-
--- a log reaches no further than it is long
-reach_within : (es : List Entry) (c : Cell) → reach es c ≤ length es
-reach_within [] c = none_less
-  where
-    none_less : 0 ≤ 0
-    none_less = omega arith
-reach_within (e ∷ es) c = by_test (touched es c) (covers e c) (reach_within es c)
-  where
-    by_test : (t u : Bool) → reach es c ≤ length es → cond t (reach es c + 1) (cond u 1 0) ≤ length (e ∷ es)
-    by_test true u rest = omega (arith, rest)
-    by_test false true rest = omega arith
-    by_test false false rest = omega arith
 
 -- nothing is in conflict there
 no_clash : (rs : List Stored) (workspace : List ℕ) (a b : Space) (s : State) → Family rs workspace a b s → is_quiet_at a b ≡ true → (c : Cell) → clash_held (parts_of rs) a b c ≡ None
@@ -178,8 +166,8 @@ refresh_unready rs xs m session workspace a b ks es answer r own bad =
   where
     never : (s : State) → StandsAt rs xs m s → Family rs workspace a b s → ((are_keys_kept ks && list_all (is_ready_entry (parts_of rs)) es) ≡ false) ⊎ (list_any (is_turn a.number (a.rebases + 1)) (parts_of rs).turns ≡ true) → ⊥
     never s st f (inl unready) =
-        bool_apart
-        (sym (and_true (are_keys_kept ks) _ (keys_kept rs workspace a b xs m s st f ks own.copied.each)
+        true≢false
+        (sym (and_from (are_keys_kept ks) _ (keys_kept rs workspace a b xs m s st f ks own.copied.each)
         (ap (list_all (is_ready_entry (parts_of rs))) (gained_same rs workspace a b s f m session.user es r.listed) ∙ gained_ready rs workspace a b xs m s st f m session.user))
         ∙ unready)
-    never s st f (inr turned) = bool_apart (sym turned ∙ unturned rs workspace a b xs m s st f)
+    never s st f (inr turned) = true≢false (sym turned ∙ unturned rs workspace a b xs m s st f)

@@ -1,9 +1,11 @@
 -- What RemoveWorkspace does to each state that the records stand for.
 use Rattle.std.proofs.Common.{arith, ◌≡◌, ℕ, ◌<◌, ◌+◌, ◌==◌, nat_lt, nat_le, Bool, true, false, not, ◌&&◌, ◌||◌, cond, List, [], ◌∷◌, Option, Some, None, is_some, refl, sym, ap, ◌∙◌, codes}
-use Rattle.std.proofs.lemmas.Bool.{eqb-true, ne_eqb}
+use Rattle.std.proofs.lemmas.Bool.{eqb-true, ne_eqb, not-true, true≢false}
+use Rattle.std.proofs.Math.Dec.{leb-zero}
 use Rattle.std.specs.List.{find, list_all}
 use Rattle.std.specs.Option.{option_map}
 use Rattle.std.specs.Str.{bytes_eq}
+use Rattle.wm_base.proofs.Plain.{nonzero}
 use Rattle.wm_base.specs.declared.instant.TheConstants.{END}
 use Rattle.wm_base.specs.declared.refusal.Refusal.{Refusal as Fault}
 use Rattle.wm_graph.specs.Parts.{parts_of, space_of}
@@ -22,7 +24,6 @@ use Rattle.wm_state.proofs.Climbing.{parent_apart}
 use Rattle.wm_state.proofs.Mapped.{all-found}
 use Rattle.wm_state.proofs.Named.{space_number}
 use Rattle.wm_state.proofs.Spaces.{IsSpace, named_no_space, ruled_spaces}
-use Rattle.wm_state.proofs.Tests.{bool_apart, not_true}
 use Rattle.wm_model.specs.Planning.{StandsAt, Does, Stay}
 use Rattle.wm_model.specs.Step.{at_its_end, counter_limit, first_fault, first_session, has_child, line_work, no_parent, no_workspace, refused_for, remove_workspace, session_inside, unless}
 use Rattle.wm_model.specs.Step.Undoing.{first_name, is_child, remove, removing_faults, resolving_fault, stands_in}
@@ -63,15 +64,12 @@ module _ (rs : List Stored) (xs : List Session) (m : ℕ) (a : Space) (s : State
       ap (λ i. (c.parent == i) && not (c.number == i)) is.number
       ∙ ap (λ i. (c.parent == a.number) && not (i == a.number)) two.number
       ∙ ap (λ (f : SpaceFields). (f.parent == a.number) && not (r.number == a.number)) (sym two.fields)
-      ∙ ap (λ b. (r.parent == a.number) && b) (sym (anywhere (not (r.number == a.number)) (nat_le 0 r.birth_place) (nat_le 0 r.from) (from_none r.birth_place)))
+      ∙ ap (λ b. (r.parent == a.number) && b) (sym (anywhere (not (r.number == a.number)) (nat_le 0 r.birth_place) (nat_le 0 r.from) (leb-zero r.birth_place)))
     where
-      from_none : (n : ℕ) → nat_le 0 n ≡ true
-      from_none n = grind arith
-
       anywhere : (b c d : Bool) → c ≡ true → (b && (c || d)) ≡ b
       anywhere true true d e = refl
       anywhere false true d e = refl
-      anywhere b false d e = absurd (bool_apart (sym e))
+      anywhere b false d e = absurd (true≢false (sym e))
 
   child_part : refused_for (has_child w.name) (first_name (is_child w) s) ≡ refused_for (has_child a.name) (first_child (parts_of rs) a.number 0 0)
   child_part =
@@ -94,11 +92,8 @@ by_refusal : (rs : List Stored) (xs : List Session) (m : ℕ) (workspace : List 
     → remove_workspace workspace s ≡ unless o s (remove (home rs xs m workspace a s names st).workspace s)
 by_refusal rs xs m workspace a s names st o some is =
     let h = home rs xs m workspace a s names st in
-    by_number rs xs m workspace a s names st false (above a.number some)
+    by_number rs xs m workspace a s names st false (nonzero a.number some)
     ∙ ap (λ q. unless q s (remove h.workspace s)) (removing_same rs xs m a s st h.workspace h.is ∙ ap (λ ys. removing_refusal (parts_of rs) ys a) (sym st.sessions_are) ∙ is)
-  where
-    above : (n : ℕ) → 0 < n → (n == 0) ≡ false
-    above n lt = grind (arith, lt)
 
 -- ---- the plans
 
@@ -141,8 +136,8 @@ childless rs xs workspace a names some clear =
     -- one that passes no test of children is none
     outside : (b c : Bool) (birth : ℕ) (more : Bool) → c ≡ false → (b && (not c && (nat_le 0 birth || more))) ≡ false → not b ≡ true
     outside false c birth more other fails = refl
-    outside true true birth more other fails = absurd (bool_apart other)
-    outside true false birth more other fails = absurd (bool_apart (sym (wide birth more) ∙ fails))
+    outside true true birth more other fails = absurd (true≢false other)
+    outside true false birth more other fails = absurd (true≢false (sym (wide birth more) ∙ fails))
       where
         wide : (birth : ℕ) (more : Bool) → (nat_le 0 birth || more) ≡ true
         wide birth more = ap (λ b. b || more) (let e : nat_le 0 birth ≡ true = grind arith in e)
@@ -154,7 +149,7 @@ childless rs xs workspace a names some clear =
         ap not (ne_eqb r.parent a.number (λ e. apart (sym e)))
     by_itself n r found false other =
         let fails = found-passes (λ (q : Space). q.number == n) (λ (q : Space). not (is_child_from a.number 0 0 q)) (parts_of rs).spaces r found (none_first (parts_of rs) (is_child_from a.number 0 0) names.rules none) in
-        outside (r.parent == a.number) (r.number == a.number) r.birth_place (nat_le 0 r.from) other (not_true (is_child_from a.number 0 0 r) fails.1)
+        outside (r.parent == a.number) (r.number == a.number) r.birth_place (nat_le 0 r.from) other (not-true (is_child_from a.number 0 0 r) fails.1)
 
 pub does_remove : (rs : List Stored) (xs : List Session) (m : ℕ) (workspace : List ℕ) (a : Space) (c : Counters) → NamesSpace rs workspace a → 0 < a.number → removing_refusal (parts_of rs) xs a ≡ None
     → (parts_of rs).counters ≡ c ∷ [] → nat_lt counter_limit (c.work + line_work) ≡ false → nat_lt m END ≡ true → Does rs xs m (edits.Remove a.number ∷ []) Stay Fine (remove_workspace workspace)

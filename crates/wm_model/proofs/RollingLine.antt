@@ -1,6 +1,8 @@
 -- What RollbackToSP does to each state that the records stand for.
 use Rattle.std.proofs.Common.{arith, ◌≡◌, ℕ, ◌+◌, ◌==◌, nat_lt, nat_le, Bool, true, false, not, ◌&&◌, ◌||◌, cond, List, [], ◌∷◌, length, Option, Some, None, unwrap_or, refl, sym, ap, ◌∙◌, codes}
-use Rattle.std.proofs.lemmas.Bool.{eq-eqb, eqb-true}
+use Rattle.std.proofs.lemmas.Bool.{eq-eqb, eqb-true, and_from, and_parts, true≢false}
+use Rattle.std.proofs.lemmas.Option.{same_Some}
+use Rattle.std.proofs.Math.Dec.{leb-zero}
 use Rattle.std.specs.List.{find, list_all, list_any}
 use Rattle.std.specs.Option.{option_map, option_map_or}
 use Rattle.std.specs.Str.{bytes_eq}
@@ -26,7 +28,6 @@ use Rattle.wm_state.proofs.Mapped.{find-again, find-else, find-passes}
 use Rattle.wm_state.proofs.Named.{ruled_savepoints, space_number}
 use Rattle.wm_state.proofs.SavedAs.{IsSaved, made_none, made_some, named_none, named_some, named_sorted}
 use Rattle.wm_state.proofs.Spaces.{IsSpace, NamedSpace, named_no_space, named_space, ruled_spaces}
-use Rattle.wm_state.proofs.Tests.{and_true, bool_apart, both}
 use Rattle.wm_telling.proofs.Marking.{marked_beyond, marked_since}
 use Rattle.wm_model.specs.Planning.{StandsAt, Does, Stay}
 use Rattle.wm_model.specs.Step.{at_its_end, counter_limit, dependent_child, durably, first_fault, first_session, line_work, no_savepoint, no_workspace, rebased_since, refused_for, refused_if, resolve_open, resolves, rollback_to, session_inside, unless}
@@ -46,10 +47,10 @@ named_numbered rs workspace a names =
 pub named_made : (p : Parts) (n : ℕ) (name : List ℕ) (x : Record) → keep_rules p ≡ true → find (λ (y : Record). bytes_eq name y.name) (saved_in p n) ≡ Some x → saved_as p n x.making ≡ Some x
 named_made p n name x rules saved =
     find-else (λ (y : Record). (y.space == n) && (y.making == x.making)) (λ (y : Record). y.making == x.making) same_making
-    (λ y z one other. eq-eqb y.making z.making (eqb-true _ _ (both (y.space == n) (y.making == x.making) one).1 ∙ sym (eqb-true _ _ (both (z.space == n) (z.making == x.making) other).1)))
+    (λ y z one other. eq-eqb y.making z.making (eqb-true _ _ (and_parts (y.space == n) (y.making == x.making) one).1 ∙ sym (eqb-true _ _ (and_parts (z.space == n) (z.making == x.making) other).1)))
     p.savepoints x makings (find-again same_making making-itself (λ (y : Record). (y.space == n) && bytes_eq name y.name) p.savepoints x makings found)
-    (and_true (x.space == n) (x.making == x.making)
-    (both (x.space == n) (bytes_eq name x.name) (find-passes (λ (y : Record). (y.space == n) && bytes_eq name y.name) p.savepoints x found)).0
+    (and_from (x.space == n) (x.making == x.making)
+    (and_parts (x.space == n) (bytes_eq name x.name) (find-passes (λ (y : Record). (y.space == n) && bytes_eq name y.name) p.savepoints x found)).0
     (eq-eqb x.making x.making refl))
   where
     makings : differ same_making p.savepoints ≡ true
@@ -111,12 +112,9 @@ pub record Pair (r : Space) (c : Workspace) : Type 0 where
 
 pub pair : (p : Parts) (s : Durable) (n : ℕ) (c : Workspace) (r : Space) → Stands p s → workspace_of s.spaces n ≡ Some c → space_of p.spaces n ≡ Some r → Pair r c
 pair p s n c r st found recorded = record {
-  fields = some_fields (fields_of r) (fields_in c) (sym (ap (option_map fields_of) recorded) ∙ st.spaces.same n ∙ ap (option_map fields_in) found);
+  fields = same_Some (fields_of r) (fields_in c) (sym (ap (option_map fields_of) recorded) ∙ st.spaces.same n ∙ ap (option_map fields_in) found);
   number = eqb-true c.number n (find-passes (λ (v : Workspace). v.number == n) s.spaces c found) ∙ sym (space_number p n r recorded);
 }
-  where
-    some_fields : (f g : SpaceFields) → Some f ≡ Some g → f ≡ g
-    some_fields f g h = cc
 
 -- whether a session has a resolve of the workspace open
 pub resolving_same : (p : Parts) (a : Space) (s : State) (w : Workspace) → IsSpace p s.durable a.number a w → resolving_fault s w ≡ resolving_refusal s.sessions a
@@ -129,7 +127,7 @@ child_or : (parent apart e some f : Bool) → some ≡ true → ((parent && apar
 child_or true true e true f is = refl
 child_or true false e true f is = refl
 child_or false apart e true f is = refl
-child_or parent apart e false f is = absurd (bool_apart (sym is))
+child_or parent apart e false f is = absurd (true≢false (sym is))
 
 -- all are below where none is not
 all_below : (place : ℕ) (ms : List Settled) → list_all (is_settled_below place) ms ≡ not (list_any (λ (m : Settled). nat_le place m.place) ms)
@@ -197,10 +195,7 @@ module _ (rs : List Stored) (xs : List Session) (m : ℕ) (workspace name : List
       ∙ ap (λ b. ((r.parent == a.number) && not (r.number == a.number)) && ((b || nat_lt x.log_length r.from) || decided)) (under_next x.place r.birth_place)
       ∙ ap (λ b. ((r.parent == a.number) && not (r.number == a.number)) && ((nat_le (x.place + 1) r.birth_place || b) || decided)) (under_next x.log_length r.from)
       ∙ child_or (r.parent == a.number) (not (r.number == a.number)) (nat_le (x.place + 1) r.birth_place || nat_le (x.log_length + 1) r.from) (nat_le 0 r.birth_place || nat_le 0 r.from) decided
-      (ap (λ b. b || nat_le 0 r.from) (from_none r.birth_place))
-    where
-      from_none : (i : ℕ) → nat_le 0 i ≡ true
-      from_none i = grind arith
+      (ap (λ b. b || nat_le 0 r.from) (leb-zero r.birth_place))
 
   child_part : refused_for dependent_child (first_name (depends s.sessions w k) s) ≡ refused_for dependent_child (first_dependent (parts_of rs) s.sessions a.number x)
   child_part = ap (refused_for dependent_child) (first_same (parts_of rs) s.durable (fields_stand (parts_of rs) s.durable st.stands) (depends s.sessions w k) (is_dependent (parts_of rs) s.sessions a.number x) depends_same)

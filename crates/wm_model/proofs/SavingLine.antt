@@ -1,6 +1,6 @@
 -- What CreateSavepoint does to each state that the records stand for.
 use Rattle.std.proofs.Common.{◌≡◌, ℕ, ◌+◌, ◌==◌, ◌&&◌, nat_lt, nat_le, Bool, true, false, List, [], ◌∷◌, length, Option, Some, None, unwrap_or, refl, sym, ap, ◌∙◌, codes}
-use Rattle.std.proofs.lemmas.Bool.{eq-eqb}
+use Rattle.std.proofs.lemmas.Bool.{eq-eqb, and_parts}
 use Rattle.std.specs.List.{find, count_by, list_all}
 use Rattle.std.specs.Option.{option_and_then}
 use Rattle.std.specs.Str.{bytes_eq}
@@ -20,7 +20,6 @@ use Rattle.wm_state.specs.declared.edit.Edit.TheVariants as edits
 use Rattle.wm_state.proofs.Mapped.{find-again}
 use Rattle.wm_forked.proofs.Points.{name_taken, name_free, few_same}
 use Rattle.wm_state.proofs.Spaces.{IsSpace, NamedSpace, ruled_spaces, named_space, named_no_space}
-use Rattle.wm_state.proofs.Tests.{both}
 use Rattle.wm_model.specs.Planning.{StandsAt, Does, Stay}
 use Rattle.wm_model.specs.Saving.{SavesIn, MaySaveIn}
 use Rattle.wm_model.specs.Step.{create_savepoint, save, saving_faults, first_fault, unless, durably, is_name, names_no_savepoint, no_workspace, savepoint_there, most_savepoints, at_its_end, number_limit, counter_limit, line_work}
@@ -109,8 +108,8 @@ save_spent rs xs m workspace name a c may one much =
 -- a good name is short
 pub name_short : (name : List ℕ) → is_name name ≡ true → is_short name ≡ true
 name_short name good =
-    let h = both (nat_le 1 (length name) && nat_le (length name) 30) (list_all (λ b. nat_le 32 b && nat_le b 126) name) good in
-    (both (nat_le 1 (length name)) (nat_le (length name) 30) h.0).1
+    let h = and_parts (nat_le 1 (length name) && nat_le (length name) 30) (list_all (λ b. nat_le 32 b && nat_le b 126) name) good in
+    (and_parts (nat_le 1 (length name)) (nat_le (length name) 30) h.0).1
 
 pub does_save : (rs : List Stored) (xs : List Session) (m : ℕ) (workspace name : List ℕ) (a : Space) (c : Counters) → MaySaveIn rs workspace name a → (parts_of rs).counters ≡ c ∷ []
     → nat_lt counter_limit (c.work + line_work) ≡ false → nat_lt m END ≡ true → Does rs xs m (edits.Save a.number name ∷ []) Stay Fine (create_savepoint workspace name)

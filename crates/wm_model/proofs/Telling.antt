@@ -1,6 +1,7 @@
 -- What is pending in a parent and what is own is told by what workspaces hold; and what the versions of a lawful state hold is told by logs.
 use Rattle.std.proofs.Common.{◌≡◌, ◌≢◌, ◌==◌, ℕ, ◌+◌, ◌<◌, ◌≤◌, if◌then◌else◌, nat_lt, List, length, slice_get, drop, zero, suc, [], ◌∷◌, Option, Some, None, option_map, refl, sym, ap, subst, ◌∙◌, arith}
 use Rattle.std.proofs.lemmas.Bool.{ne_eqb}
+use Rattle.std.proofs.lemmas.Option.{same_Some}
 use Rattle.wm_graph.specs.Parts.{Parts, space_of}
 use Rattle.wm_net.proofs.Merging as merging
 use Rattle.wm_spec.specs.Lists.{Alike, Cell, Entry, reach, told, touched}
@@ -9,7 +10,6 @@ use Rattle.wm_spec.specs.declared.record.space.Space.{Space}
 use Rattle.wm_state.specs.Standing.{Base, HasRows, Kept, KeptBase, Names, Newest, Stands, held_of, latest, saved_as, seen}
 use Rattle.wm_state.specs.State.{Durable, Savepoint, Turn, Workspace, content, kept, savepoint_made, turn_of, workspace_of}
 use Rattle.wm_model.specs.Lawful.{Lawful, LawfulSpace, point, whole}
-use Rattle.wm_model.proofs.Lawful.Lists.{one_some}
 use Rattle.wm_model.proofs.Lawful.Spaces.{number_is}
 
 -- ---- lists
@@ -63,7 +63,7 @@ turn_there n number w d l above found within = by_turn (turn_of w number) refl (
 took : {staged : List Entry} (d : Durable) (n number : ℕ) (w q : Workspace) (t : Turn) → Lawful d staged → 0 < n → workspace_of d.spaces n ≡ Some w → workspace_of d.spaces w.parent ≡ Some q → turn_of w number ≡ Some t → Alike t.content (point q t.log_length)
 took d n number w q t l above found parent turn =
     let b = l.spaces.bases n w above found in
-    let same : b.parent ≡ q = one_some b.parent q (sym b.is ∙ parent) in
+    let same : b.parent ≡ q = same_Some b.parent q (sym b.is ∙ parent) in
     rw (← same) (b.alike number t turn)
 
 -- the version that a workspace sees under its own holds what the parent was where its log was so long

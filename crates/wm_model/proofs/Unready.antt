@@ -1,7 +1,8 @@
 -- What a lawful state merges or gains can be written again, what is own can be copied, and the next turn of a workspace is not there.
 use Rattle.std.proofs.Common.{arith, ◌≡◌, ℕ, ◌+◌, ◌<◌, ◌≤◌, ◌==◌, ◌&&◌, ◌||◌, length, nat_le, nat_lt, Bool, true, false, List, [], ◌∷◌, drop, slice_get, Option, Some, None, refl, sym, ap, subst, ◌∙◌}
 use Rattle.std.proofs.lemmas.List.Elements.{All-cons, All-drop, All-head, All-nil, All-tail}
-use Rattle.std.proofs.lemmas.Option.{slice_get_past}
+use Rattle.std.proofs.lemmas.Option.{slice_get_past, same_Some}
+use Rattle.std.proofs.lemmas.Bool.{and_from, and_parts, or_right}
 use Rattle.std.specs.Bool.{then_some}
 use Rattle.std.specs.List.{All, list_all, list_any}
 use Rattle.std.specs.Option.{option_map, option_map_or, option_or}
@@ -29,7 +30,6 @@ use Rattle.wm_state.proofs.Logging.{log_of-found}
 use Rattle.wm_state.proofs.Mapped.{none-found}
 use Rattle.wm_state.proofs.Ready.{tables_found}
 use Rattle.wm_state.proofs.Staying.{turns_of-found}
-use Rattle.wm_state.proofs.Tests.{and_true, both}
 use Rattle.wm_telling.specs.Telling.{own_held}
 use Rattle.wm_telling.proofs.Beside.{own_is_held}
 use Rattle.wm_telling.proofs.Everywhere.{EntryHas, gained_all, net_all}
@@ -41,20 +41,20 @@ use Rattle.wm_model.proofs.Families.{Family}
 
 -- ---- texts
 
--- what is filled can be kept
-same_test : (v : Value) → can_keep v ≡ is_filled v
-same_test Null = refl
-same_test (Num n) = refl
-same_test (Text t) = refl
-same_test (Time i) = refl
-same_test (Span p) = refl
+-- what is filled can be kept, and nothing else
+pub can_keep-filled : (v : Value) → can_keep v ≡ is_filled v
+can_keep-filled Null = refl
+can_keep-filled (Num n) = refl
+can_keep-filled (Text t) = refl
+can_keep-filled (Time i) = refl
+can_keep-filled (Span p) = refl
 
-filled_kept : (vs : List Value) → list_all is_filled vs ≡ true → list_all can_keep vs ≡ true
+pub filled_kept : (vs : List Value) → list_all is_filled vs ≡ true → list_all can_keep vs ≡ true
 filled_kept [] all = refl
 filled_kept (v ∷ vs) all =
-    let h = both (is_filled v) (list_all is_filled vs) all in and_true (can_keep v) (list_all can_keep vs) (same_test v ∙ h.0) (filled_kept vs h.1)
+    let h = and_parts (is_filled v) (list_all is_filled vs) all in and_from (can_keep v) (list_all can_keep vs) (can_keep-filled v ∙ h.0) (filled_kept vs h.1)
 
-row_kept : (o : Option Row) → option_map_or is_full_row o true ≡ true → option_map_or (λ (row : Row). list_all can_keep row.values) o true ≡ true
+pub row_kept : (o : Option Row) → option_map_or is_full_row o true ≡ true → option_map_or (λ (row : Row). list_all can_keep row.values) o true ≡ true
 row_kept None full = refl
 row_kept (Some row) full = filled_kept row.values full
 
@@ -68,15 +68,15 @@ ready_each : (tables : List Table) (tells : ℕ → Told) (next : ℕ) (es : Lis
 ready_each tables tells next [] real sound = All-nil (EntryHas (Ready tables))
 ready_each tables tells next (e ∷ es) real sound =
     All-cons (EntryHas (Ready tables)) e es
-    (and_true (is_ready tables e.table) _ (All-head (IsReal tables) e es real).on
-    (and_true (list_all can_keep e.key) _ (filled_kept e.key sound.0.keyed) (row_kept e.row sound.0.filled)))
+    (and_from (is_ready tables e.table) _ (All-head (IsReal tables) e es real).on
+    (and_from (list_all can_keep e.key) _ (filled_kept e.key sound.0.keyed) (row_kept e.row sound.0.filled)))
     (ready_each tables tells next es (All-tail (IsReal tables) e es real) sound.1)
 
 ready_all : (was now : List Table) → ((n : ℕ) → is_ready was n ≡ is_ready now n) → (es : List Entry) → All (EntryHas (Ready was)) es
     → list_all (λ (e : Entry). is_ready now e.table && (list_all can_keep e.key && option_map_or (λ (r : Row). list_all can_keep r.values) e.row true)) es ≡ true
 ready_all was now same [] all = refl
 ready_all was now same (e ∷ es) all =
-    and_true (is_ready now e.table && kept) _
+    and_from (is_ready now e.table && kept) _
     (ap (λ b. b && kept) (sym (same e.table)) ∙ All-head (EntryHas (Ready was)) e es all)
     (ready_all was now same es (All-tail (EntryHas (Ready was)) e es all))
   where
@@ -85,9 +85,6 @@ ready_all was now same (e ∷ es) all =
 
 -- ---- keys
 
-some_told : {A : Type 0} (x y : A) → Some x ≡ Some y → x ≡ y
-some_told x y e = cc
-
 -- a cell at which filled entries tell something has a key that can be kept
 told_keyed : (tells : ℕ → Told) (next : ℕ) (es : List Entry) (c : Cell) (t : Told) → Each (IsSound tells next) es → told es c ≡ Some t → list_all can_keep c.key ≡ true
 told_keyed tells next [] c t sound e = absurd (cc)
@@ -95,7 +92,7 @@ told_keyed tells next (x ∷ xs) c t sound e = by_told (told xs c) (covers x c) 
   where
     by_told : (o : Option Told) (b : Bool) → told xs c ≡ o → covers x c ≡ b → option_or o (then_some b (told_of x)) ≡ Some t → (told xs c ≡ Some t → list_all can_keep c.key ≡ true) → list_all can_keep c.key ≡ true
     by_told (Some u) b at is h rest = rest (at ∙ h)
-    by_told None true at is h rest = subst (λ (k : List Value). list_all can_keep k ≡ true) (key_same x.key c.key (both _ _ (both _ _ is).0).1) (filled_kept x.key sound.0.keyed)
+    by_told None true at is h rest = subst (λ (k : List Value). list_all can_keep k ≡ true) (key_same x.key c.key (and_parts _ _ (and_parts _ _ is).0).1) (filled_kept x.key sound.0.keyed)
     by_told None false at is h rest = absurd (cc)
 
 -- pieces hold something, where there are some
@@ -108,14 +105,14 @@ holding : (low high : ℕ) (p : Piece) (ps : List Piece) → Between low (p ∷ 
 holding low high p ps lie = record { time = p.period.from; value = held p; is = ap (λ b. option_or (then_some b (held p)) (held_at ps p.period.from)) (begins p.period.from p.period.till lie.1) }
   where
     begins : (from till : ℕ) → from < till → in_period (record { from = from; till = till }) from ≡ true
-    begins from till lt = and_true (nat_le from from) (nat_lt from till) (grind arith) (grind (arith, lt))
+    begins from till lt = and_from (nat_le from from) (nat_lt from till) (grind arith) (grind (arith, lt))
 
 module _ (rs : List Stored) (workspace : List ℕ) (a b : Space) (xs : List Session) (m : ℕ) (s : State) (st : StandsAt rs xs m s) (f : Family rs workspace a b s) where
   -- a key with pieces of what is own can be kept
   key_kept : (k : KeyPieces) (ps : List Piece) → k.pieces ≡ ps → HoldsKey (own_held (parts_of rs) a) k → ((length ps == 0) || list_all can_keep k.key) ≡ true
   key_kept k [] is holds = refl
   key_kept k (p ∷ ps) is holds =
-      or_true (length (p ∷ ps) == 0) (list_all can_keep k.key)
+      or_right (length (p ∷ ps) == 0) (list_all can_keep k.key)
       (by_told (told f.w.lists.own c) refl
       (sym (own_is_held (parts_of rs) s.durable a.number f.w a st.stands f.is.found f.is.recorded c) ∙ sym (holds.holds some.time) ∙ ap (λ (qs : List Piece). held_at qs some.time) is ∙ some.is))
     where
@@ -125,10 +122,6 @@ module _ (rs : List Stored) (workspace : List ℕ) (a b : Space) (xs : List Sess
       c : Cell
       c = key_cell k some.time
 
-      or_true : (t u : Bool) → u ≡ true → (t || u) ≡ true
-      or_true true u h = refl
-      or_true false u h = h
-
       by_told : (o : Option Told) → told f.w.lists.own c ≡ o → option_map held_of o ≡ Some some.value → list_all can_keep k.key ≡ true
       by_told None is h = absurd (cc)
       by_told (Some t) is h = told_keyed st.lawful.durable.entries.tells s.durable.next_stamp f.w.lists.own c t (st.lawful.durable.entries.each a.number f.w f.is.found).own is
@@ -136,7 +129,7 @@ module _ (rs : List Stored) (workspace : List ℕ) (a b : Space) (xs : List Sess
   pub keys_kept : (ks : List KeyPieces) → All (HoldsKey (own_held (parts_of rs) a)) ks → are_keys_kept ks ≡ true
   keys_kept [] each = refl
   keys_kept (k ∷ ks) each =
-      and_true ((length k.pieces == 0) || list_all can_keep k.key) _ (key_kept k k.pieces refl (All-head (HoldsKey (own_held (parts_of rs) a)) k ks each))
+      and_from ((length k.pieces == 0) || list_all can_keep k.key) _ (key_kept k k.pieces refl (All-head (HoldsKey (own_held (parts_of rs) a)) k ks each))
       (keys_kept ks (All-tail (HoldsKey (own_held (parts_of rs) a)) k ks each))
 
   -- ---- what is written again

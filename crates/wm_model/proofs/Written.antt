@@ -1,5 +1,6 @@
 -- What a line that changes rows does to each state that the records stand for.
 use Rattle.std.proofs.Common.{◌≡◌, ℕ, ◌+◌, nat_lt, nat_le, true, false, List, [], ◌∷◌, length, map, Option, Some, None, refl, sym, ap, ◌∙◌}
+use Rattle.std.proofs.lemmas.Bool.{and_from, and_parts}
 use Rattle.std.specs.List.{list_all}
 use Rattle.std.specs.Option.{option_map_or}
 use Rattle.std.specs.declared.alloc.Global.{Global}
@@ -22,7 +23,6 @@ use Rattle.wm_state.specs.Entries.{AreStamped, entry_keys, is_well, fits_table}
 use Rattle.wm_state.specs.State.{State, Session}
 use Rattle.wm_state.specs.declared.edit.Edit.TheVariants as edits
 use Rattle.wm_state.specs.declared.edit.NewEntry.{NewEntry}
-use Rattle.wm_state.proofs.Tests.{both, and_true}
 use Rattle.wm_model.specs.Changes.{MayWrite}
 use Rattle.wm_model.specs.Entered.{change_entry, entries_from, entries_of}
 use Rattle.wm_model.specs.Planning.{StandsAt, Does, Stay}
@@ -42,14 +42,14 @@ keys_are stamp moment user t (x ∷ xs) = ap (λ keys. x.key ∷ keys) (keys_are
 pub stamped_are : (stamp moment : ℕ) (user : List ℕ) (t : Table) (changes : List RowChange) → list_all change_lasts changes ≡ true → AreStamped t.number stamp (entries_from stamp moment user t changes)
 stamped_are stamp moment user t [] last = tt
 stamped_are stamp moment user t (x ∷ xs) last =
-    let h = both (change_lasts x) (list_all change_lasts xs) last in (record { table = refl; period = h.0; stamp = refl }, stamped_are (stamp + 1) moment user t xs h.1)
+    let h = and_parts (change_lasts x) (list_all change_lasts xs) last in (record { table = refl; period = h.0; stamp = refl }, stamped_are (stamp + 1) moment user t xs h.1)
 
 pub well_are : (rs : List Stored) (stamp moment : ℕ) (user : List ℕ) (t : Table) (changes : List RowChange) → table_of (parts_of rs).tables t.number ≡ Some t → list_all (is_change t) changes ≡ true
     → list_all (is_well (table_of (parts_of rs).tables)) (entries_from stamp moment user t changes) ≡ true
 well_are rs stamp moment user t [] there fit = refl
 well_are rs stamp moment user t (x ∷ xs) there fit =
-    let h = both (is_change t x) (list_all (is_change t) xs) fit in
-    and_true (is_well (table_of (parts_of rs).tables) (change_entry stamp moment user t x)) _
+    let h = and_parts (is_change t x) (list_all (is_change t) xs) fit in
+    and_from (is_well (table_of (parts_of rs).tables) (change_entry stamp moment user t x)) _
     (ap (λ o. option_map_or (fits_table x.key (change_entry stamp moment user t x).row) o false) there ∙ by_row x.row refl ∙ h.0)
     (well_are rs (stamp + 1) moment user t xs there h.1)
   where
@@ -59,7 +59,7 @@ well_are rs stamp moment user t (x ∷ xs) there fit =
 
 pub users_are : (stamp moment : ℕ) (user : List ℕ) (t : Table) (changes : List RowChange) → is_short user ≡ true → list_all (λ (e : Entry). is_short e.user) (entries_from stamp moment user t changes) ≡ true
 users_are stamp moment user t [] short = refl
-users_are stamp moment user t (x ∷ xs) short = and_true (is_short user) _ short (users_are (stamp + 1) moment user t xs short)
+users_are stamp moment user t (x ∷ xs) short = and_from (is_short user) _ short (users_are (stamp + 1) moment user t xs short)
 
 -- ---- what is written
 

@@ -1,8 +1,9 @@
 -- What is cut more counts no less, and what ends where entries end changes at cuts alone.
 use Rattle.std.proofs.Common.{◌≡◌, ℕ, ◌≤◌, ◌⊎◌, inl, inr, List, [], ◌∷◌, ◌++◌, map, length, Option, is_some, Bool, true, false, cond, ◌&&◌, ◌||◌, ◌==◌, nat_le, nat_lt, refl, sym, ap, ◌∙◌, arith, eqb-true, eq-eqb, ⊎_elim, subst}
-use Rattle.std.proofs.lemmas.Bool.{and_parts}
+use Rattle.std.proofs.lemmas.Bool.{and_parts, or_left, or_right}
 use Rattle.std.proofs.lemmas.List.Folds.{list_any-append}
 use Rattle.std.proofs.lemmas.List.Sums.{length-filter}
+use Rattle.std.proofs.Math.Bool.{or_assoc}
 use Rattle.std.specs.Bool.{then_some}
 use Rattle.std.specs.List.{count_by}
 use Rattle.wm_base.specs.declared.value.Value.{Value}
@@ -76,11 +77,7 @@ has-group_append : (g : Group) (xs ys : List Entry) → has_group g (groups (xs 
 has-group_append g [] ys = refl
 has-group_append g (x ∷ xs) ys =
     rw (has-group_in g (group_of x) (groups (xs ++ ys)), has-group_in g (group_of x) (groups xs), has-group_append g xs ys)
-    (by_test (same_group (group_of x) g) (has_group g (groups xs)) (has_group g (groups ys)))
-  where
-    by_test : (a b c : Bool) → (a || (b || c)) ≡ ((a || b) || c)
-    by_test true b c = refl
-    by_test false b c = refl
+    (sym (or_assoc (same_group (group_of x) g) (has_group g (groups xs)) (has_group g (groups ys))))
 
 -- groups that no entry is of add nothing
 counted_over : (es : List Entry) (f : Cell → Bool) (gs : List Group) → GroupsAscend gs → ((g : Group) → has_group g (groups es) ≡ true → has_group g gs ≡ true)
@@ -109,14 +106,6 @@ more_firsts es fs f (g ∷ gs) cut =
     let one = more_cuts f g 0 0 cs ds (omega arith) (Up-cuts es g.table g.key) (Off-below 0 0 ds (omega arith) (Up-cuts fs g.table g.key)) (AllOff-cuts g es ds (cut g)) in
     let rest = more_firsts es fs f gs cut in
     omega (arith, fewer, more, one, rest)
-
-pub or_left : (a b : Bool) → a ≡ true → (a || b) ≡ true
-or_left true b e = refl
-or_left false b e = absurd (cc)
-
-pub or_right : (a b : Bool) → b ≡ true → (a || b) ≡ true
-or_right true b e = refl
-or_right false b e = e
 
 -- where all that is cut by some entries is cut by others, these count no less
 count_cut : (es fs : List Entry) (f : Cell → Bool) → ((g : Group) → Cut g es (cuts fs g.table g.key)) → cut_count es f ≤ cut_count fs f

@@ -7,6 +7,7 @@ use Rattle.std.specs.Cmp.{IsTotalOrder, Equal-is}
 use Rattle.std.specs.Ordering.{nat_cmp, is_eq, is_lt}
 use Rattle.std.specs.declared.cmp.Ordering.{Ordering}
 use Rattle.std.specs.declared.cmp.Ordering.TheVariants.{Less, Equal, Greater}
+use Rattle.wm_base.proofs.Plain.{or_swap}
 use Rattle.wm_base.specs.Key.{key_order}
 use Rattle.wm_base.specs.Orders.{both_equal, key_order_total, key_order-equal, key_order-itself}
 use Rattle.wm_spec.specs.Lists.{Entry, is_of}
@@ -98,12 +99,6 @@ pub has-group_in : (g h : Group) (gs : List Group) → has_group g (group_in h g
 has-group_in g h [] = refl
 has-group_in g h (x ∷ gs) = by_order (group_order h x) refl (has-group_in g h gs)
   where
-    swap : (a b c : Bool) → (a || (b || c)) ≡ (b || (a || c))
-    swap true true c = refl
-    swap true false c = refl
-    swap false true c = refl
-    swap false false c = refl
-
     twice : (a b c : Bool) → a ≡ b → (b || c) ≡ (a || (b || c))
     twice true b c e = rw (sym e) refl
     twice false b c e = refl
@@ -112,7 +107,7 @@ has-group_in g h (x ∷ gs) = by_order (group_order h x) refl (has-group_in g h 
         → has_group g (if is_lt o then h ∷ x ∷ gs else (if is_eq o then x ∷ gs else x ∷ group_in h gs)) ≡ (same_group h g || (same_group x g || has_group g gs))
     by_order Less e rest = refl
     by_order Equal e rest = twice (same_group h g) (same_group x g) (has_group g gs) (ap (λ y. same_group y g) (group_order-equal h x e))
-    by_order Greater e rest = ap (λ b. same_group x g || b) rest ∙ swap (same_group x g) (same_group h g) (has_group g gs)
+    by_order Greater e rest = ap (λ b. same_group x g || b) rest ∙ or_swap (same_group x g) (same_group h g) (has_group g gs)
 
 -- where no entry is of a group, nothing is cut
 pub cuts_none : (es : List Entry) (g : Group) → has_group g (groups es) ≡ false → cuts es g.table g.key ≡ []

@@ -176,7 +176,8 @@ outside_is : (o p : Option Told) → outside o p ≡ (if is_some o then None els
 outside_is (Some x) p = refl
 outside_is None p = refl
 
-outside_given : (o p : Option Told) (x : Told) → outside o p ≡ Some x → p ≡ Some x
+-- what is told outside of others is told
+pub outside_given : (o p : Option Told) (x : Told) → outside o p ≡ Some x → p ≡ Some x
 outside_given (Some y) p x e = absurd (cc)
 outside_given None p x e = e
 

@@ -3,6 +3,7 @@ use Rattle.std.proofs.Common.{◌≡◌, ℕ, ◌+◌, ◌≤◌, List, [], ◌�
 use Rattle.std.proofs.lemmas.List.Elements.{All-head, All-tail, filter-append}
 use Rattle.std.proofs.lemmas.List.Folds.{list_any-append}
 use Rattle.std.proofs.lemmas.List.Sums.{sum_by-cons, sum_by-le}
+use Rattle.std.proofs.lemmas.Bool.{or_left, or_parts, or_right}
 use Rattle.std.specs.List.{All, count_by, filter, list_any, sum_by}
 use Rattle.wm_spec.specs.Lists.{Entry, Cell, covers, touched}
 use Rattle.wm_spec.specs.Stretches.{cuts}
@@ -12,7 +13,7 @@ use Rattle.wm_net.specs.Groups.{Group, cell, of_cell, same_group, groups, has_gr
 use Rattle.wm_net.specs.Places.{Once}
 use Rattle.wm_net.proofs.Alikes.{touched-cons}
 use Rattle.wm_net.proofs.Counting.{count-cons, weight, firsts, all_firsts, first_cells-are}
-use Rattle.wm_net.proofs.Cutting.{or_left, or_right, IsSteady-touched, IsSteady-cells}
+use Rattle.wm_net.proofs.Cutting.{IsSteady-touched, IsSteady-cells}
 use Rattle.wm_net.proofs.Grouping.{same_group-is, cuts_none}
 use Rattle.wm_net.proofs.Stretching.{le_or_lt}
 
@@ -180,14 +181,10 @@ AreApart-no_two {X = X} covers related xs share e = record { once = λ c. walk c
 pub AreApart-once : (es : List Entry) → Once es → AreApart covers es
 AreApart-once es once = record { once = λ c. walk c es once }
   where
-    either : (a b : Bool) → (a || b) ≡ false → (a ≡ false) × (b ≡ false)
-    either true b e = absurd (cc)
-    either false b e = (refl, e)
-
     none : (c : Cell) (xs : List Entry) → touched xs c ≡ false → count_by (λ x. covers x c) xs ≡ 0
     none c [] h = refl
     none c (x ∷ xs) h =
-        let two = either (touched xs c) (covers x c) (sym (touched-cons x xs c) ∙ h) in
+        let two = or_parts (touched xs c) (covers x c) (sym (touched-cons x xs c) ∙ h) in
         let first : cond (covers x c) 1 0 ≡ 0 = ap weight two.1 in
         omega (arith, count-cons (λ y. covers y c) x xs, first, none c xs two.0)
 

@@ -31,7 +31,7 @@ within_both from middle till t lt1 lt2 = grind (arith, nat_tests)
 
 -- ---- the order of stretches
 
-Ordered-lower : {A : Type 0} (low high : ℕ) (ss : List (Stretch A)) → low ≤ high → Ordered high ss → Ordered low ss
+pub Ordered-lower : {A : Type 0} (low high : ℕ) (ss : List (Stretch A)) → low ≤ high → Ordered high ss → Ordered low ss
 Ordered-lower low high [] le o = tt
 Ordered-lower low high (s ∷ ss) le o = (omega (arith, le, o.0), o.1, o.2)
 

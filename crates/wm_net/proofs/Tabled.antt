@@ -1,6 +1,7 @@
 -- What is listed of one table, and what stretches say where they begin.
 use Rattle.std.proofs.Common.{◌≡◌, ℕ, ◌≤◌, ◌==◌, ◌||◌, cond, List, [], ◌∷◌, ◌++◌, map, slice_get, Option, None, Some, Bool, true, false, refl, sym, ap, ◌∙◌, arith, eq-eqb, eqb-true, subst}
 use Rattle.std.proofs.lemmas.List.Elements.{filter-append}
+use Rattle.std.proofs.lemmas.Option.{none-some}
 use Rattle.std.specs.List.{AllByRecursion, filter}
 use Rattle.wm_spec.proofs.Stretches.{Steady}
 use Rattle.wm_spec.specs.Lists.{Cell, Entry}
@@ -118,10 +119,7 @@ Fit-in {A = A} same es table f fit = record {
 
     right : (g : Group) (b : Bool) → Right same (λ t. cond b (f (cell g t)) None)
     right g true = fit.right g
-    right g false = record { right = λ t u x y e h k. absurd (nothing x e) }
-      where
-        nothing : (x : A) → (let none : Option A = None in none) ≡ Some x → ⊥
-        nothing x e = cc
+    right g false = record { right = λ t u x y e h k. absurd (none-some x e) }
 
 -- ---- the conflicts of a table
 
@@ -193,9 +191,6 @@ all_begin {A = A} same f xs l = subst (λ (ys : List (Group × Stretch A)). AllB
 pub given_in : {A : Type 0} (table : ℕ) (f : Cell → Option A) (g : Group) (t : ℕ) (x : A) → in_table table f (cell g t) ≡ Some x → (g.table ≡ table) × (f (cell g t) ≡ Some x)
 given_in {A = A} table f g t x e = by_test (g.table == table) refl e
   where
-    nothing : (let none : Option A = None in none) ≡ Some x → ⊥
-    nothing h = cc
-
     by_test : (b : Bool) → (g.table == table) ≡ b → cond b (f (cell g t)) None ≡ Some x → (g.table ≡ table) × (f (cell g t) ≡ Some x)
     by_test true is h = (eqb-true g.table table is, h)
-    by_test false is h = absurd (nothing h)
+    by_test false is h = absurd (none-some x h)

@@ -1,5 +1,6 @@
 -- Symbols that are left at the end.
 use Rattle.std.proofs.Common.{◌≡◌, ℕ, true, false, List, [], ◌∷◌, refl, sym, ap, subst, ◌∙◌, inl, inr, Option, Some, None, Result, Ok, Err}
+use Rattle.std.proofs.lemmas.Option.{same_Some}
 use Rattle.std.specs.Prelude.{MatchResult, IfOk, IfErr}
 use Rattle.wm_base.specs.declared.tree.line.Line.{Line as LineNode}
 use Rattle.wm_base.specs.Views.{line_view}
@@ -79,11 +80,8 @@ no_literal text column b l = some_literal text l.1 (sym l.3) (sym b)
 
 pub same_literal : (text : List ℕ) (left read column : ℕ) → Some left ≡ bad_literal text → read ≡ column_of text left → IsLiteral text column → read ≡ column
 same_literal text left read column b c l =
-    let same : left ≡ l.1 = some_is left l.1 (b ∙ l.3) in
+    let same : left ≡ l.1 = same_Some left l.1 (b ∙ l.3) in
     c ∙ ap (λ (n : ℕ). column_of text n) same ∙ sym l.4
-  where
-    some_is : (n m : ℕ) → Some n ≡ Some m → n ≡ m
-    some_is n m e = cc
 
 pub syntax_same : (read column : ℕ) → read ≡ column → faults.Syntax read ≡ faults.Syntax column
 syntax_same read column e = ap (λ (n : ℕ). faults.Syntax n) e

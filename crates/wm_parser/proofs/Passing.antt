@@ -1,6 +1,7 @@
 -- A semicolon is passed, or none is there.
-use Rattle.std.proofs.Common.{◌≡◌, ℕ, Bool, true, false, cond, List, [], ◌∷◌, refl, sym, ap, ◌∙◌, Option, Some, None, Result, Ok, Err}
-use Rattle.std.specs.Prelude.{◌==◌, ◌||◌}
+use Rattle.std.proofs.Common.{◌≡◌, ℕ, Bool, true, false, cond, List, [], ◌∷◌, sym, ap, ◌∙◌, Option, Some, None, Result, Ok, Err}
+use Rattle.std.proofs.Math.Bool.{or-false}
+use Rattle.std.specs.Prelude.{◌==◌}
 use Rattle.wm_grammar.specs.Symbols.{Symbol, next_in}
 use Rattle.wm_grammar.specs.Sorts as sorts
 use Rattle.wm_grammar.specs.Reading.{mark_at, bind}
@@ -10,16 +11,12 @@ use Rattle.wm_parser.specs.Lines.{semicolon_at, some_if}
 abbrev pub Read : Type 0
 Read = Result (Option (Unit {0}) × List Symbol) ℕ
 
-or_false : (b : Bool) → b ≡ (b || false)
-or_false true = refl
-or_false false = refl
-
 abbrev pub mark_read : Symbol → List Symbol → Bool → Result (Unit {0} × List Symbol) ℕ
 mark_read t ts z = cond z (Ok (tt, ts)) (Err t.left)
 
 marked : (ts : List Symbol) → next_in (sorts.SEMICOLON ∷ []) ts ≡ true → mark_at sorts.SEMICOLON ts ≡ Ok (tt, behind ts)
 marked [] e = absurd cc
-marked (t ∷ ts) e = ap (mark_read t ts) (or_false (t.sort == sorts.SEMICOLON) ∙ e)
+marked (t ∷ ts) e = ap (mark_read t ts) (sym (or-false (t.sort == sorts.SEMICOLON)) ∙ e)
 
 abbrev pub else_read : List Symbol → Bool → Read
 else_read ts z = cond z (bind {B = Option (Unit {0}) × List Symbol} (mark_at sorts.SEMICOLON ts) (λ q. Ok (Some q.0, q.1))) (Ok (None, ts))

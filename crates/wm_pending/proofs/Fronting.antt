@@ -1,22 +1,15 @@
 -- The front of pieces in order, at an instant.
 use Rattle.std.proofs.Common.{◌≡◌, ℕ, ◌<◌, ◌≤◌, true, false, List, [], ◌∷◌, length, get_or, Option, Some, None, is_some, refl, sym, ap, ◌∙◌, subst, arith, ◌==◌, eqb-true}
 use Rattle.std.proofs.lemmas.Bool.Decides.{nat_tests}
-use Rattle.std.specs.Bool.{then_some}
-use Rattle.std.specs.Option.{option_or}
 use Rattle.std.specs.Ordering.{is_lt, nat_cmp}
-use Rattle.wm_base.specs.Period.{covers}
 use Rattle.wm_base.specs.declared.instant.TheConstants.{END}
 use Rattle.wm_period.proofs.Order.{held_at-early}
 use Rattle.wm_period.specs.Pieces.{Between, Held, held, held_at}
 use Rattle.wm_period.specs.declared.piece.Piece.{Piece}
+use Rattle.wm_period.proofs.Canonical.{held_at-first}
 use Rattle.wm_pending.specs.Fronts.{HoldsNext, IsAhead}
 
 -- ---- what pieces hold
-
-held_at-first : (p : Piece) (ps : List Piece) (t : ℕ) → p.period.from ≤ t → t < p.period.till → held_at (p ∷ ps) t ≡ Some (held p)
-held_at-first p ps t from till =
-    let covered : covers p.period t ≡ true = grind (arith, nat_tests) in
-    ap (λ v. option_or (then_some v (held p)) (held_at ps t)) covered
 
 -- before the first piece nothing is held
 held_at-before : (p : Piece) (ps : List Piece) (t : ℕ) → Between 0 (p ∷ ps) END → t < p.period.from → held_at (p ∷ ps) t ≡ None

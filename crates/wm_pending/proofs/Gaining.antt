@@ -1,11 +1,13 @@
 -- What a workspace gains, key by key.
-use Rattle.std.proofs.Common.{◌≡◌, ℕ, ◌<◌, ◌≤◌, ◌⊎◌, inl, inr, Bool, true, false, cond, ◌&&◌, ◌==◌, nat_lt, nat_le, List, [], ◌∷◌, ◌++◌, map, Option, None, is_some, refl, sym, ap, ◌∙◌, subst, arith}
+use Rattle.std.proofs.Common.{◌≡◌, ℕ, ◌<◌, ◌≤◌, ◌⊎◌, inl, inr, Bool, true, false, cond, ◌&&◌, ◌==◌, nat_lt, nat_le, List, [], ◌∷◌, ◌++◌, map, Option, None, is_some, refl, sym, ap, ◌∙◌, subst}
 use Rattle.std.proofs.lemmas.List.{map-append}
+use Rattle.std.proofs.lemmas.Bool.{and_parts, or_parts}
 use Rattle.std.specs.BTreeMap as tree
 use Rattle.std.specs.List.{list_all, list_any}
 use Rattle.std.specs.List.Sorted.{IsStrictlySortedBy}
 use Rattle.std.specs.Option.{option_map_or}
 use Rattle.std.specs.Ordering.{is_eq}
+use Rattle.wm_base.proofs.Plain.{nat_lt-past}
 use Rattle.wm_base.specs.Key.{key_order}
 use Rattle.wm_base.specs.declared.instant.TheConstants.{END}
 use Rattle.wm_graph.specs.Parts.{Parts, space_of, table_of}
@@ -21,7 +23,6 @@ use Rattle.wm_spec.specs.declared.record.space.Space.{Space}
 use Rattle.wm_spec.specs.declared.record.table.Table.{Table}
 use Rattle.wm_spec.specs.declared.record.trace.Trace.{Trace}
 use Rattle.wm_state.proofs.Apart.{ruled}
-use Rattle.wm_state.proofs.Tests.{both, either_false}
 use Rattle.wm_state.specs.Copied.{HoldsKey}
 use Rattle.wm_state.specs.Standing.{latest, seen}
 use Rattle.wm_telling.specs.Telling.{AreOwn, IsHeldListing, gained_held, group_at, own_held, replayed_by, same_held}
@@ -43,20 +44,17 @@ use Rattle.wm_pending.specs.declared.touched.Since.{Since}
 -- no touch goes past the end of time
 ended : (tables : ℕ → Option Table) (spaces : ℕ → Option Space) (x : Trace) → is_touch tables spaces x ≡ true → nat_le x.cells.till END ≡ true
 ended tables spaces x e =
-    let h = both (is_trace tables spaces x) (option_map_or (λ (s : Space). nat_lt x.position s.log_length) (spaces x.space) false) e in
-    let g = both (are_cells tables x.cells) (is_given spaces x.space x.place) h.0 in
-    let d = both (nat_lt x.cells.from x.cells.till && nat_le x.cells.till END) (option_map_or (is_key_of x.cells.key) (tables x.cells.table) false) g.0 in
-    (both (nat_lt x.cells.from x.cells.till) (nat_le x.cells.till END) d.0).1
-
-past : (till end t : ℕ) → nat_le till end ≡ true → end ≤ t → nat_lt t till ≡ false
-past till end t e late = grind (arith, e, late)
+    let h = and_parts (is_trace tables spaces x) (option_map_or (λ (s : Space). nat_lt x.position s.log_length) (spaces x.space) false) e in
+    let g = and_parts (are_cells tables x.cells) (is_given spaces x.space x.place) h.0 in
+    let d = and_parts (nat_lt x.cells.from x.cells.till && nat_le x.cells.till END) (option_map_or (is_key_of x.cells.key) (tables x.cells.table) false) g.0 in
+    (and_parts (nat_lt x.cells.from x.cells.till) (nat_le x.cells.till END) d.0).1
 
 touched_late : (tables : ℕ → Option Table) (spaces : ℕ → Option Space) (s : Since) (c : Cell) → END ≤ c.time → (xs : List Trace) → list_all (is_touch tables spaces) xs ≡ true → is_touched xs s c ≡ false
 touched_late tables spaces s c late [] all = refl
 touched_late tables spaces s c late (x ∷ xs) all =
-    let h = both (is_touch tables spaces x) (list_all (is_touch tables spaces) xs) all in
+    let h = and_parts (is_touch tables spaces x) (list_all (is_touch tables spaces) xs) all in
     rw (
-      uncovered (is_since s x) ((x.cells.table == c.table) && is_eq (key_order x.cells.key c.key)) (nat_le x.cells.from c.time) (nat_lt c.time x.cells.till) (past x.cells.till END c.time (ended tables spaces x h.0) late),
+      uncovered (is_since s x) ((x.cells.table == c.table) && is_eq (key_order x.cells.key c.key)) (nat_le x.cells.from c.time) (nat_lt c.time x.cells.till) (nat_lt-past x.cells.till END c.time (ended tables spaces x h.0) late),
       touched_late tables spaces s c late xs h.1,
     ) refl
   where
@@ -68,13 +66,13 @@ touched_late tables spaces s c late (x ∷ xs) all =
 
 pub none_late : (p : Parts) (s : Since) (c : Cell) → keep_rules p ≡ true → END ≤ c.time → is_touched p.touches s c ≡ false
 none_late p s c rules late =
-    touched_late (table_of p.tables) (space_of p.spaces) s c late p.touches (both (differ meet p.touches) (list_all (is_touch (table_of p.tables) (space_of p.spaces)) p.touches) (ruled p rules).touches).1
+    touched_late (table_of p.tables) (space_of p.spaces) s c late p.touches (and_parts (differ meet p.touches) (list_all (is_touch (table_of p.tables) (space_of p.spaces)) p.touches) (ruled p rules).touches).1
 
 -- nor does one cover a cell of a key that none is of
 none_of_key : (xs : List Trace) (s : Since) (c : Cell) → has_touched xs s (c.table, c.key) ≡ false → is_touched xs s c ≡ false
 none_of_key [] s c none = refl
 none_of_key (x ∷ xs) s c none =
-    let two = either_false (is_since s x && is_touch_of (c.table, c.key) x) (has_touched xs s (c.table, c.key)) none in
+    let two = or_parts (is_since s x && is_touch_of (c.table, c.key) x) (has_touched xs s (c.table, c.key)) none in
     rw (
       other (is_since s x) ((x.cells.table == c.table) && is_eq (key_order x.cells.key c.key)) (nat_le x.cells.from c.time && nat_lt c.time x.cells.till)
           (ap (λ b. is_since s x && b) (sym (tied x.cells.table c.table (key_order x.cells.key c.key))) ∙ two.0),

@@ -1,9 +1,10 @@
 -- The walk along the versions of a workspace above the one that it sees under its own.
-use Rattle.std.proofs.Common.{◌≡◌, ℕ, ◌+◌, ◌<◌, ◌≤◌, Bool, true, false, cond, ◌||◌, ◌==◌, nat_lt, List, [], ◌∷◌, length, take, get_or, Option, None, Some, refl, sym, ap, ◌∙◌, arith}
+use Rattle.std.proofs.Common.{◌≡◌, ℕ, ◌+◌, ◌<◌, Bool, true, false, cond, ◌||◌, ◌==◌, nat_lt, List, [], ◌∷◌, length, take, get_or, Option, None, Some, refl, sym, ap, ◌∙◌}
 use Rattle.std.proofs.Math.Bool.{or_assoc}
 use Rattle.std.proofs.lemmas.List.{take_more}
 use Rattle.std.proofs.lemmas.List.Elements.{filter_map-append}
 use Rattle.std.proofs.lemmas.List.Folds.{list_any-append}
+use Rattle.std.proofs.lemmas.Bool.{ltb-false, ltb-true, or_parts}
 use Rattle.std.specs.List.{cons_option, filter_map}
 use Rattle.std.specs.Option.{option_and_then, option_or, option_to_list}
 use Rattle.wm_base.proofs.Plain.{option_or-none, option_or_assoc}
@@ -24,7 +25,6 @@ use Rattle.wm_spec.specs.declared.record.piece.PieceRecord.{PieceRecord}
 use Rattle.wm_spec.specs.declared.record.space.Space.{Space}
 use Rattle.wm_spec.specs.declared.record.stored.Stored.{Stored}
 use Rattle.wm_spec.specs.declared.record.version.Version.{Version}
-use Rattle.wm_state.proofs.Tests.{either_false}
 use Rattle.wm_state.specs.ById.{Ascend}
 use Rattle.wm_state.specs.Copied.{HoldsKey}
 use Rattle.wm_state.specs.Standing.{latest, newest_first, seen_above, stored_at}
@@ -47,12 +47,6 @@ laid_more ss a n v ids c old new own rules up there are laid so =
     ∙ ap (option_or old) (sym goes)
     ∙ so
 
-before : (t end : ℕ) → nat_lt t end ≡ true → t < end
-before t end e = grind (arith, e)
-
-behind : (t end : ℕ) → nat_lt t end ≡ false → end ≤ t
-behind t end e = grind (arith, e)
-
 -- what was laid is all where no version is left
 pub laid_all : (ss : List Stored) (a : Space) (n table : ℕ) (key : List Value) (laid ps : List Piece) → keep_rules (parts_of ss) ≡ true → None ≡ cond (n == a.base_version) None (version_of (parts_of ss).versions n)
     → ((t : ℕ) → t < END → option_or (held_at laid t) (seen_above (parts_of ss) a.base_version n (record { table = table; key = key; time = t })) ≡ own_held (parts_of ss) a (record { table = table; key = key; time = t }))
@@ -67,10 +61,10 @@ laid_all ss a n table key laid ps rules ends so same lie joined = record { lie =
         same t
         ∙ sym (option_or-none (held_at laid t))
         ∙ sym (ap (option_or (held_at laid t)) (own_ends (parts_of ss) a.base_version n (at t) rules ends))
-        ∙ so t (before t END e)
+        ∙ so t (ltb-true t END e)
     by_time t false e =
-        held_at-past 0 ps END t lie (behind t END e)
-        ∙ sym (own_nowhere (parts_of ss).pieces (newest_first (parts_of ss).versions) a.base_version (latest (parts_of ss) a.number) (at t) (λ w. nothing_late (parts_of ss) w (at t) rules (behind t END e)))
+        held_at-past 0 ps END t lie (ltb-false t END e)
+        ∙ sym (own_nowhere (parts_of ss).pieces (newest_first (parts_of ss).versions) a.base_version (latest (parts_of ss) a.number) (at t) (λ w. nothing_late (parts_of ss) w (at t) rules (ltb-false t END e)))
 
 -- ---- the keys of all pieces
 
@@ -108,7 +102,7 @@ pub keys_more : (ss : List Stored) (a : Space) (n : ℕ) (v : Version) (ids : Li
     → new ≡ (old || has_piece_of (c.table, c.key) (kind_at as_piece ss ids)) → (old ≡ false → own ≡ seen_above (parts_of ss) a.base_version n c)
     → new ≡ false → own ≡ seen_above (parts_of ss) a.base_version v.parent c
 keys_more ss a n v ids c old new own rules up there are more so out =
-    let two = either_false old (has_piece_of (c.table, c.key) (kind_at as_piece ss ids)) (sym more ∙ out) in
+    let two = or_parts old (has_piece_of (c.table, c.key) (kind_at as_piece ss ids)) (sym more ∙ out) in
     so two.0
     ∙ (own_goes_on (parts_of ss) a.base_version n v rules there).0 c
     ∙ ap (λ o. option_or o (seen_above (parts_of ss) a.base_version v.parent c)) (stored_nowhere ss ids n c up are two.1)

@@ -1,11 +1,13 @@
 -- What a version itself has, told by the records of ids.
 use Rattle.std.proofs.Common.{◌≡◌, ◌≤◌, ℕ, Bool, true, false, cond, ◌&&◌, ◌||◌, ◌==◌, nat_lt, nat_le, List, [], ◌∷◌, Option, None, refl, sym, ap, ◌∙◌, is_some, arith}
 use Rattle.std.proofs.lemmas.Bool.Decides.{nat_tests}
+use Rattle.std.proofs.lemmas.Bool.{and_left, and_parts, or_parts}
 use Rattle.std.specs.Bool.{then_some}
 use Rattle.std.specs.List.{filter, filter_map, list_all}
 use Rattle.std.specs.Option.{option_map_or, option_or}
 use Rattle.std.specs.Ordering.{is_eq, nat_cmp, ordering_then}
 use Rattle.std.specs.declared.cmp.Ordering.{Ordering}
+use Rattle.wm_base.proofs.Plain.{nat_lt-past}
 use Rattle.wm_base.specs.Key.{key_order}
 use Rattle.wm_base.specs.declared.instant.TheConstants.{END}
 use Rattle.wm_graph.specs.Parts.{Parts, parts_of, as_piece, row_of, table_of, version_of}
@@ -24,7 +26,6 @@ use Rattle.wm_spec.specs.declared.record.stored.Stored.{Stored}
 use Rattle.wm_spec.specs.declared.record.table.Table.{Table}
 use Rattle.wm_spec.specs.declared.record.version.Version.{Version}
 use Rattle.wm_state.proofs.Apart.{ruled}
-use Rattle.wm_state.proofs.Tests.{both, either_false}
 use Rattle.wm_state.specs.ById.{Ascend}
 use Rattle.wm_state.specs.Standing.{held_by, stored_at}
 use Rattle.wm_pending.specs.Keys.{has_piece_of, is_piece_of}
@@ -54,17 +55,14 @@ keyless : (xs : List PieceRecord) (v : ℕ) (c : Cell) → has_piece_of (c.table
 keyless [] v c none = refl
 keyless (x ∷ xs) v c none = by_version (x.version == v) none (keyless xs v c)
   where
-    other : (b t : Bool) → b ≡ false → (b && t) ≡ false
-    other b t e = rw e refl
-
     by_version : (b : Bool) → has_piece_of (c.table, c.key) (cond b (x ∷ filter (λ (x : PieceRecord). x.version == v) xs) (filter (λ (x : PieceRecord). x.version == v) xs)) ≡ false
         → (has_piece_of (c.table, c.key) (filter (λ (x : PieceRecord). x.version == v) xs) ≡ false → stored_at xs v c ≡ None)
         → option_or (then_some (b && (((x.cells.table == c.table) && is_eq (key_order x.cells.key c.key)) && (nat_le x.cells.from c.time && nat_lt c.time x.cells.till))) (held_by x)) (stored_at xs v c) ≡ None
     by_version false e rest = rest e
     by_version true e rest =
-        let two = either_false (is_piece_of (c.table, c.key) x) (has_piece_of (c.table, c.key) (filter (λ (x : PieceRecord). x.version == v) xs)) e in
+        let two = or_parts (is_piece_of (c.table, c.key) x) (has_piece_of (c.table, c.key) (filter (λ (x : PieceRecord). x.version == v) xs)) e in
         ap (λ b. option_or (then_some b (held_by x)) (stored_at xs v c))
-        (other ((x.cells.table == c.table) && is_eq (key_order x.cells.key c.key)) (nat_le x.cells.from c.time && nat_lt c.time x.cells.till)
+        (and_left ((x.cells.table == c.table) && is_eq (key_order x.cells.key c.key)) (nat_le x.cells.from c.time && nat_lt c.time x.cells.till)
         (sym (tied x.cells.table c.table (key_order x.cells.key c.key)) ∙ two.0))
         ∙ rest two.1
 
@@ -84,22 +82,19 @@ stored_nowhere ss ids v c up is none =
 
 ended : (tables : ℕ → Option Table) (versions : ℕ → Option Version) (rows : ℕ → Option RowRecord) (next : ℕ) (x : PieceRecord) → is_piece tables versions rows next x ≡ true → nat_le x.cells.till END ≡ true
 ended tables versions rows next x e =
-    let h = both (is_some (versions x.version)) (are_cells tables x.cells && (nat_lt x.stamp next && (x.gone || option_map_or (is_row_at tables x.cells) (rows x.stamp) false))) e in
-    let g = both (are_cells tables x.cells) (nat_lt x.stamp next && (x.gone || option_map_or (is_row_at tables x.cells) (rows x.stamp) false)) h.1 in
-    let d = both (nat_lt x.cells.from x.cells.till && nat_le x.cells.till END) (option_map_or (is_key_of x.cells.key) (tables x.cells.table) false) g.0 in
-    (both (nat_lt x.cells.from x.cells.till) (nat_le x.cells.till END) d.0).1
-
-past : (till end t : ℕ) → nat_le till end ≡ true → end ≤ t → nat_lt t till ≡ false
-past till end t e late = grind (arith, e, late)
+    let h = and_parts (is_some (versions x.version)) (are_cells tables x.cells && (nat_lt x.stamp next && (x.gone || option_map_or (is_row_at tables x.cells) (rows x.stamp) false))) e in
+    let g = and_parts (are_cells tables x.cells) (nat_lt x.stamp next && (x.gone || option_map_or (is_row_at tables x.cells) (rows x.stamp) false)) h.1 in
+    let d = and_parts (nat_lt x.cells.from x.cells.till && nat_le x.cells.till END) (option_map_or (is_key_of x.cells.key) (tables x.cells.table) false) g.0 in
+    (and_parts (nat_lt x.cells.from x.cells.till) (nat_le x.cells.till END) d.0).1
 
 stored_late : (tables : ℕ → Option Table) (versions : ℕ → Option Version) (rows : ℕ → Option RowRecord) (next v : ℕ) (c : Cell) → END ≤ c.time → (xs : List PieceRecord)
     → list_all (is_piece tables versions rows next) xs ≡ true → stored_at xs v c ≡ None
 stored_late tables versions rows next v c late [] all = refl
 stored_late tables versions rows next v c late (x ∷ xs) all =
-    let h = both (is_piece tables versions rows next x) (list_all (is_piece tables versions rows next) xs) all in
+    let h = and_parts (is_piece tables versions rows next x) (list_all (is_piece tables versions rows next) xs) all in
     rw (
       uncovered (x.version == v) ((x.cells.table == c.table) && is_eq (key_order x.cells.key c.key)) (nat_le x.cells.from c.time) (nat_lt c.time x.cells.till)
-          (past x.cells.till END c.time (ended tables versions rows next x h.0) late),
+          (nat_lt-past x.cells.till END c.time (ended tables versions rows next x h.0) late),
       stored_late tables versions rows next v c late xs h.1,
     ) refl
   where
@@ -112,5 +107,5 @@ stored_late tables versions rows next v c late (x ∷ xs) all =
 pub nothing_late : (p : Parts) (v : ℕ) (c : Cell) → keep_rules p ≡ true → END ≤ c.time → stored_at p.pieces v c ≡ None
 nothing_late p v c rules late =
     let r = ruled p rules in
-    let all = both (differ collide p.pieces) (list_all (is_piece (table_of p.tables) (version_of p.versions) (row_of p.rows) r.counters.next_stamp) p.pieces) r.pieces in
+    let all = and_parts (differ collide p.pieces) (list_all (is_piece (table_of p.tables) (version_of p.versions) (row_of p.rows) r.counters.next_stamp) p.pieces) r.pieces in
     stored_late (table_of p.tables) (version_of p.versions) (row_of p.rows) r.counters.next_stamp v c late p.pieces all.1

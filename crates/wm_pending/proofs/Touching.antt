@@ -1,12 +1,14 @@
 -- Touches found by their ids, and what they tell of a cell.
 use Rattle.std.proofs.Common.{◌≡◌, ℕ, ◌+◌, Bool, true, false, cond, not, ◌&&◌, ◌||◌, ◌==◌, nat_lt, nat_le, max, List, [], ◌∷◌, ◌++◌, Option, Some, None, refl, sym, ap, subst, ◌∙◌, arith}
-use Rattle.std.proofs.lemmas.Bool.{eq-eqb, eqb-true, ne_eqb}
+use Rattle.std.proofs.lemmas.Bool.{eq-eqb, eqb-true, ne_eqb, or_right}
 use Rattle.std.proofs.lemmas.Bool.Decides.{nat_tests}
 use Rattle.std.proofs.lemmas.Map.Views.{any-filter_same}
+use Rattle.std.proofs.Math.Bool.{and-true, or_assoc}
 use Rattle.std.specs.Cmp.{both_ways}
 use Rattle.std.specs.List.{filter, filter_map, list_any}
 use Rattle.std.specs.Option.{option_and_then, option_map_or, option_to_list}
 use Rattle.std.specs.Ordering.{is_eq}
+use Rattle.wm_base.proofs.Plain.{and_swap}
 use Rattle.wm_base.specs.Key.{key_order}
 use Rattle.wm_base.specs.declared.value.Value.{Value}
 use Rattle.wm_graph.specs.Parts.{as_mark, as_touch, parts_of}
@@ -30,10 +32,6 @@ use Rattle.wm_pending.specs.declared.touched.Since.{Since}
 
 -- ---- ids, in any order
 
-or_true : (a b : Bool) → b ≡ true → (a || b) ≡ true
-or_true true b is = refl
-or_true false b is = is
-
 -- an id that is one of some settles a test of them
 any_found : (R : ℕ → Bool) (id : ℕ) (ids : List ℕ) → R id ≡ true → list_any (λ k. k == id) ids ≡ true → list_any R ids ≡ true
 any_found R id [] is found = found
@@ -42,13 +40,13 @@ any_found R id (x ∷ ids) is found = by_id (x == id) refl found (any_found R id
     by_id : (b : Bool) → (x == id) ≡ b → (b || list_any (λ k. k == id) ids) ≡ true → (list_any (λ k. k == id) ids ≡ true → list_any R ids ≡ true)
         → (R x || list_any R ids) ≡ true
     by_id true same found rest = ap (λ k. R k || list_any R ids) (eqb-true x id same) ∙ ap (λ b. b || list_any R ids) is
-    by_id false apart found rest = or_true (R x) (list_any R ids) (rest found)
+    by_id false apart found rest = or_right (R x) (list_any R ids) (rest found)
 
 -- what some of them pass, some of all that are among others do
 any_among : (R : ℕ → Bool) (ids jds : List ℕ) → ((id : ℕ) → list_any (λ k. k == id) ids ≡ true → list_any (λ k. k == id) jds ≡ true) → list_any R ids ≡ true → list_any R jds ≡ true
 any_among R [] jds within is = absurd (cc)
 any_among R (x ∷ ids) jds within is =
-    by_test (R x) refl is (any_among R ids jds (λ id found. within id (or_true (x == id) (list_any (λ k. k == id) ids) found)))
+    by_test (R x) refl is (any_among R ids jds (λ id found. within id (or_right (x == id) (list_any (λ k. k == id) ids) found)))
   where
     by_test : (b : Bool) → R x ≡ b → (b || list_any R ids) ≡ true → (list_any R ids ≡ true → list_any R jds ≡ true) → list_any R jds ≡ true
     by_test true holds is rest = any_found R x jds holds (within x (ap (λ b. b || list_any (λ k. k == x) ids) (eq-eqb x x refl)))
@@ -148,14 +146,6 @@ any_at-next kind P ss id ids = by_record (record_at ss id) refl
         by_kind None e = rw e refl
         by_kind (Some x) e = rw e refl
 
-pub and_true : (b : Bool) → b ≡ (b && true)
-and_true true = refl
-and_true false = refl
-
-or_assoc : (a b c : Bool) → ((a || b) || c) ≡ (a || (b || c))
-or_assoc true b c = refl
-or_assoc false b c = refl
-
 -- one more at their end
 pub any_at-push : (kind : Record → Option Trace) (P : Trace → Bool) (ss : List Stored) (ids : List ℕ) (id : ℕ)
     → any_at kind P ss (ids ++ id ∷ []) ≡ (any_at kind P ss ids || list_any P (option_to_list (option_and_then kind (record_at ss id))))
@@ -223,13 +213,7 @@ cells_touched s table key t ss sorted =
     (λ (x : Trace). ((x.cells.table == table) && is_eq (key_order x.cells.key key)) && covers_at s t x)
     (λ (x : Trace). is_since s x && in_cells x.cells (record { table = table; key = key; time = t }))
     (parts_of ss).touches
-    (λ x. swap ((x.cells.table == table) && is_eq (key_order x.cells.key key)) (is_since s x) (nat_le x.cells.from t && nat_lt t x.cells.till))
-  where
-    swap : (a b c : Bool) → (a && (b && c)) ≡ (b && (a && c))
-    swap true true c = refl
-    swap true false c = refl
-    swap false true c = refl
-    swap false false c = refl
+    (λ x. and_swap ((x.cells.table == table) && is_eq (key_order x.cells.key key)) (is_since s x) (nat_le x.cells.from t && nat_lt t x.cells.till))
 
 -- the cells of a key that the marks that are meant settle
 pub cells_settled : (marks since : Since) (c : Cell) (ss : List Stored) → Ascend ss

@@ -1,6 +1,7 @@
 -- A walk from one stretch of conflict to the next.
 use Rattle.std.proofs.Common.{◌≡◌, ℕ, ◌<◌, ◌≤◌, ◌⊎◌, inl, inr, Bool, true, false, ◌&&◌, Option, Some, None, is_some, refl, sym, ap, ◌∙◌, arith}
 use Rattle.std.proofs.lemmas.Bool.{and_parts}
+use Rattle.std.proofs.lemmas.Option.{same_Some}
 use Rattle.std.specs.Bool.{then_some}
 use Rattle.std.specs.Option.{option_and_then}
 use Rattle.wm_base.specs.declared.instant.TheConstants.{END}
@@ -18,9 +19,6 @@ use Rattle.wm_pending.specs.declared.sides.Sides.{Sides}
 use Rattle.wm_pending.specs.declared.walk.Walk.{Walk}
 
 -- ---- a contest
-
-some_same : (a b : Stamps) → Some a ≡ Some b → a ≡ b
-some_same a b e = cc
 
 pub stamps_made : (a b c x y z : Option ℕ) → a ≡ x → b ≡ y → c ≡ z → record { base = a; parent = b; child = c } ≡ (let s : Stamps = record { base = x; parent = y; child = z } in s)
 stamps_made a b c x y z e f g = λ i. record { base = e i; parent = f i; child = g i }
@@ -42,7 +40,7 @@ contest_some : (s : Sides) (t : ℕ) (v : Stamps) → contest_at s t ≡ Some v 
 contest_some s t v e = by_test (is_some (held_at s.contested t)) e
   where
     by_test : (b : Bool) → then_some b (stamps_at s t) ≡ Some v → (b ≡ true) × (stamps_at s t ≡ v)
-    by_test true h = (refl, some_same (stamps_at s t) v h)
+    by_test true h = (refl, same_Some (stamps_at s t) v h)
     by_test false h = absurd (cc)
 
 -- ---- to another instant

@@ -194,9 +194,9 @@ fn push_conflicts(
         return Ok(());
     }
     let sides = sides_of(alloc, image, asked, own)?;
-    let said = push_stretches(alloc, &sides, own, found);
+    let pushed = push_stretches(alloc, &sides, own, found);
     drop(sides);
-    said?;
+    pushed?;
     Ok(())
 }
 

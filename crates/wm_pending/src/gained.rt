@@ -128,9 +128,9 @@ pub fn gained(
     for (table, key) in keys {
         let others = own_on(own, table, &key);
         let gain = gained_with_key(alloc, image, since, version, table, key, others)?;
-        let said = push_entries(alloc, image, &mut entries, &gain, moment, user);
+        let pushed = push_entries(alloc, image, &mut entries, &gain, moment, user);
         drop(gain);
-        said?;
+        pushed?;
     }
     Ok(entries)
 }

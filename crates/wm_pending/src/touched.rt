@@ -211,8 +211,8 @@ pub fn erase_untouched(
     ensures { OnOk result ((t : ℕ) → t < END → held_at pieces.new t ≡ (if is_touched (parts_of image.now).touches since (record { table = table; key = key.now; time = t }) then held_at pieces.old t else None)) }
 {
     let quiet = untouched(alloc, image, since, table, key)?;
-    let said = erase_all(alloc, pieces, quiet.list());
+    let erased = erase_all(alloc, pieces, quiet.list());
     drop(quiet);
-    said?;
+    erased?;
     Ok(())
 }

@@ -2,6 +2,7 @@
 use Rattle.std.proofs.Common.{◌≡◌, ◌<◌, ◌≤◌, ℕ, true, false, List, [], ◌∷◌, Some, refl, sym, ap, ◌∙◌, subst, arith, ◌⊎◌, inl, inr}
 use Rattle.std.proofs.lemmas.Bool.{cases_lt}
 use Rattle.std.proofs.lemmas.Bool.Decides.{nat_tests}
+use Rattle.std.proofs.lemmas.Option.{same_Some}
 use Rattle.std.specs.Bool.{then_some}
 use Rattle.std.specs.Option.{option_or}
 use Rattle.wm_base.specs.Period.{covers}
@@ -10,19 +11,16 @@ use Rattle.wm_period.specs.Pieces.{Held, held, held_at, Between, IsApart, IsJoin
 use Rattle.wm_period.specs.declared.piece.Piece.{Piece}
 
 -- where the first piece covers the moment, it says what is held
-held_at-first : (p : Piece) (ps : List Piece) (t : ℕ) → p.period.from ≤ t → t < p.period.till → held_at (p ∷ ps) t ≡ Some (held p)
+pub held_at-first : (p : Piece) (ps : List Piece) (t : ℕ) → p.period.from ≤ t → t < p.period.till → held_at (p ∷ ps) t ≡ Some (held p)
 held_at-first p ps t from till =
     let covered : covers p.period t ≡ true = grind (arith, nat_tests) in
     ap (λ v. option_or (then_some v (held p)) (held_at ps t)) covered
 
 -- where it does not, the others say it
-held_at-others : (p : Piece) (ps : List Piece) (t : ℕ) → p.period.till ≤ t → held_at (p ∷ ps) t ≡ held_at ps t
+pub held_at-others : (p : Piece) (ps : List Piece) (t : ℕ) → p.period.till ≤ t → held_at (p ∷ ps) t ≡ held_at ps t
 held_at-others p ps t till =
     let missed : covers p.period t ≡ false = grind (arith, nat_tests) in
     ap (λ v. option_or (then_some v (held p)) (held_at ps t)) missed
-
-some_same : (a b : Held) → Some a ≡ Some b → a ≡ b
-some_same a b e = cc
 
 -- the list that holds something at an instant does not begin after it
 begins : (a : ℕ) (ps : List Piece) (b t : ℕ) (h : Held) → Between a ps b → held_at ps t ≡ Some h → a ≤ t
@@ -40,7 +38,7 @@ ends_there p (q ∷ qs) b order apart there =
     let long = order.1 in
     let early : q.period.from ≤ p.period.till = begins q.period.from (q ∷ qs) b p.period.till (held p) (omega arith, order.1, order.2) there in
     let first : held_at (q ∷ qs) p.period.till ≡ Some (held q) = held_at-first q qs p.period.till early (omega arith) in
-    apart (omega arith) (some_same (held p) (held q) (sym there ∙ first))
+    apart (omega arith) (same_Some (held p) (held q) (sym there ∙ first))
 
 -- of two lists that hold the same, the first pieces end together
 first_ends : (p q : Piece) (ps qs : List Piece) (b : ℕ) → Between p.period.till ps b → IsApart p ps → p.period.from ≡ q.period.from → p.period.from < p.period.till → held p ≡ held q
@@ -73,7 +71,7 @@ canonical low (p ∷ ps) (q ∷ qs) high first second joined_first joined_second
     let after : q.period.from ≤ p.period.from = begins q.period.from (q ∷ qs) high p.period.from (held p) (omega arith, second.1, second.2) (sym (same p.period.from) ∙ there_first) in
     let before : p.period.from ≤ q.period.from = begins p.period.from (p ∷ ps) high q.period.from (held q) (omega arith, first.1, first.2) (same q.period.from ∙ there_second) in
     let together : p.period.from ≡ q.period.from = omega arith in
-    let alike : held p ≡ held q = some_same (held p) (held q) (sym there_first ∙ same p.period.from ∙ ap (held_at (q ∷ qs)) together ∙ there_second) in
+    let alike : held p ≡ held q = same_Some (held p) (held q) (sym there_first ∙ same p.period.from ∙ ap (held_at (q ∷ qs)) together ∙ there_second) in
     let longer : q.period.till ≤ p.period.till = first_ends p q ps qs high first.2 joined_first.0 together long_first alike same in
     let shorter : p.period.till ≤ q.period.till = first_ends q p qs ps high second.2 joined_second.0 (sym together) long_second (sym alike) (λ t. sym (same t)) in
     let end : p.period.till ≡ q.period.till = omega arith in

@@ -1,6 +1,7 @@
 -- How what a plan says is told of the plan that a function gives.
 use Rattle.std.proofs.Common.{◌≡◌, ◌≤◌, ℕ, ◌<◌, nat_lt, true, false, ◌==◌, List, [], ◌∷◌, length, Option, Some, None, is_some, Result, Ok, Err, IfOk, refl, sym, ap, subst, ◌∙◌, arith}
 use Rattle.std.proofs.lemmas.Bool.Decides.{nat_tests}
+use Rattle.std.proofs.lemmas.Bool.{false≢true}
 use Rattle.std.specs.List.{list_all}
 use Rattle.wm_base.specs.declared.memory.Memory.{Memory}
 use Rattle.wm_base.specs.declared.instant.TheConstants.{END}
@@ -12,6 +13,7 @@ use Rattle.wm_state.specs.declared.edit.Edit.{Edit}
 use Rattle.wm_model.specs.Planning.{StandsAt, Does, DoesAt, IsOpen, Seating, Stay, planned, SeatsStaged}
 use Rattle.wm_model.proofs.Doing.{does_nothing}
 use Rattle.wm_model.proofs.Homes.{home_recorded}
+use Rattle.wm_model.proofs.Going.{does_alike}
 use Rattle.wm_state.specs.Drafts.{is_fork as is_fork_edit}
 use Rattle.wm_plan.specs.Forks.{AreForks}
 use Rattle.wm_plan.specs.Idle.{Idles, is_idle}
@@ -35,11 +37,6 @@ pub told_ok : (rs : List Stored) (r : Result Planned Memory) (es : List Edit) (s
 told_ok rs (Ok p) es seating answer act changes seats says does = λ xs m. told rs xs m p es seating answer act changes seats says (does xs m)
 told_ok rs (Err e) es seating answer act changes seats says does = tt
 
--- two functions that do the same to each state that the records stand for
-pub does_same : (rs : List Stored) (xs : List Session) (m : ℕ) (es : List Edit) (seating : Seating) (answer : Answer) (act other : State → State × Answer) → ((s : State) → StandsAt rs xs m s → other s ≡ act s)
-    → Does rs xs m es seating answer act → Does rs xs m es seating answer other
-does_same rs xs m es seating answer act other same does = record { can = does.can; seats = does.seats; does = λ s st. same s st ∙ does.does s st }
-
 -- a plan of one edit that makes a savepoint or a workspace, and one of none
 pub forks_one : (p : Planned) (e : Edit) → p.edits.items ≡ e ∷ [] → is_fork_edit e ≡ true → AreForks p
 forks_one p e edits fork = (ap (list_all is_fork_edit) edits ∙ rw fork refl, subst (λ (es : List Edit). length es ≤ 1) (sym edits) (omega arith))
@@ -62,10 +59,7 @@ forks_edit (Err memory) e edits fork = tt
 
 -- it is answered that it is done
 pub never_idle : (r : Result Planned Memory) → IfOk r (λ p. p.answer ≡ answers.Fine) → IfOk r Idles
-never_idle (Ok p) says = λ idle. absurd (apart (ap (λ a. is_idle (answer_view a)) (sym says) ∙ idle))
-  where
-    apart : false ≡ true → ⊥
-    apart e = cc
+never_idle (Ok p) says = λ idle. absurd (false≢true (ap (λ a. is_idle (answer_view a)) (sym says) ∙ idle))
 never_idle (Err memory) says = tt
 
 -- nor is it where rows are changed
@@ -87,7 +81,7 @@ some_of (Some a) e = (a, refl)
 
 -- a plan does what another function does to each state that the records stand for
 pub does_one : (rs : List Stored) (xs : List Session) (m : ℕ) (p : Planned) (act other : State → State × Answer) → ((s : State) → StandsAt rs xs m s → other s ≡ act s) → DoesIt rs xs m p act → DoesIt rs xs m p other
-does_one rs xs m p act other same does = does_same rs xs m p.edits.items (seating_view p.seating) (answer_view p.answer) act other same does
+does_one rs xs m p act other same does = does_alike rs xs m p.edits.items (seating_view p.seating) (answer_view p.answer) act other same does
 
 -- a plan for these sessions at this moment
 pub does_here : (rs : List Stored) (xs : List Session) (m : ℕ) (r : Result Planned Memory) (act other : State → State × Answer) → ((s : State) → other s ≡ act s)

@@ -2,12 +2,12 @@
 use Rattle.std.proofs.Common.{◌≡◌, ℕ, ◌+◌, ◌≤◌, ◌==◌, Bool, true, false, List, [], ◌++◌, Option, Some, None, refl, sym, ap, ◌∙◌, arith}
 use Rattle.std.proofs.lemmas.List.{length-append}
 use Rattle.std.proofs.lemmas.List.Folds.{list_any-append}
+use Rattle.std.proofs.lemmas.Bool.{or_parts, true≢false}
 use Rattle.std.specs.List.{list_any}
 use Rattle.std.specs.Option.{option_map_or}
 use Rattle.wm_spec.specs.Records.{record_at}
 use Rattle.wm_spec.specs.declared.record.Record.{Record}
 use Rattle.wm_spec.specs.declared.record.stored.Stored.{Stored}
-use Rattle.wm_state.proofs.Tests.{bool_apart, either_false}
 use Rattle.wm_prices.specs.Prices.{ChangesBeside}
 
 -- more is allowed
@@ -27,7 +27,7 @@ beside_wider head wide most old new more c = record {
     narrow (Some r) e = by_test (head r) refl
       where
         by_test : (b : Bool) → head r ≡ b → head r ≡ false
-        by_test true is = absurd (bool_apart (sym (more r is) ∙ e))
+        by_test true is = absurd (true≢false (sym (more r is) ∙ e))
         by_test false is = is
 
 -- nothing changes
@@ -40,7 +40,7 @@ beside_then head most more old between new one two = record {
   ids = one.ids ++ two.ids;
   few = let n = length-append one.ids two.ids in let f = one.few in let g = two.few in omega (arith, n, f, g);
   others = λ id none outside.
-      let h = either_false (list_any (λ k. k == id) one.ids) (list_any (λ k. k == id) two.ids) (sym (list_any-append (λ k. k == id) one.ids two.ids) ∙ none) in
+      let h = or_parts (list_any (λ k. k == id) one.ids) (list_any (λ k. k == id) two.ids) (sym (list_any-append (λ k. k == id) one.ids two.ids) ∙ none) in
       let first = one.others id h.0 outside in
       two.others id h.1 (ap (λ (o : Option Record). option_map_or head o false) first ∙ outside) ∙ first;
 }

@@ -1,14 +1,14 @@
 -- How many records go: no more than there are that a test does not keep.
-use Rattle.std.proofs.Common.{◌≡◌, ℕ, ◌+◌, ◌≤◌, ◌==◌, Bool, true, false, not, ◌||◌, cond, List, [], ◌∷◌, length, Option, Some, None, is_some, refl, sym, ap, ◌∙◌, arith}
-use Rattle.std.proofs.lemmas.Bool.{eq-eqb, eqb-true}
+use Rattle.std.proofs.Common.{◌≡◌, ℕ, ◌+◌, ◌≤◌, ◌==◌, Bool, true, false, not, cond, List, [], ◌∷◌, length, Option, Some, None, is_some, refl, sym, ap, ◌∙◌, arith}
+use Rattle.std.proofs.lemmas.Bool.{eq-eqb, eqb-true, and_parts, or_left, or_parts, or_right, true≢false}
 use Rattle.std.proofs.lemmas.List.Elements.{All-cons, All-nil}
+use Rattle.std.proofs.lemmas.Option.{same_Some}
 use Rattle.std.specs.List.{All, count_by, filter, list_all, list_any}
 use Rattle.wm_net.proofs.Counting.{count-cons, weight}
 use Rattle.wm_net.proofs.Sharing.{partners}
 use Rattle.wm_spec.specs.Records.{ids_differ, record_at}
 use Rattle.wm_spec.specs.declared.record.Record.{Record}
 use Rattle.wm_spec.specs.declared.record.stored.Stored.{Stored}
-use Rattle.wm_state.proofs.Tests.{bool_apart, both, either_false}
 use Rattle.wm_state.specs.Batches.{AreDropped, is_dropped}
 
 -- ---- ids
@@ -17,7 +17,7 @@ use Rattle.wm_state.specs.Batches.{AreDropped, is_dropped}
 count_out : (k : ℕ) (ids : List ℕ) → list_any (λ d. d == k) ids ≡ false → count_by (λ d. d == k) ids ≡ 0
 count_out k [] none = refl
 count_out k (d ∷ ds) none =
-    let h = either_false (d == k) (list_any (λ e. e == k) ds) none in
+    let h = or_parts (d == k) (list_any (λ e. e == k) ds) none in
     let first = count-cons (λ e. e == k) d ds in
     let zero : cond (d == k) 1 0 ≡ 0 = ap weight h.0 in
     let rest = count_out k ds h.1 in
@@ -31,21 +31,14 @@ count_in k (d ∷ ds) once = by_test (d == k) refl (list_any (λ e. e == d) ds) 
   where
     by_test : (b : Bool) → (d == k) ≡ b → (t : Bool) → list_any (λ e. e == d) ds ≡ t → (cond t false (ids_differ ds)) ≡ true → count_by (λ e. e == k) (d ∷ ds) ≡ cond b 1 0 + count_by (λ e. e == k) ds
         → (ids_differ ds ≡ true → count_by (λ e. e == k) ds ≤ 1) → count_by (λ e. e == k) (d ∷ ds) ≤ 1
-    by_test b is true inside differ first rest = absurd (bool_apart (sym differ))
+    by_test b is true inside differ first rest = absurd (true≢false (sym differ))
     by_test true is false out differ first rest = let none = count_out k ds (ap (λ j. list_any (λ e. e == j) ds) (sym (eqb-true d k is)) ∙ out) in omega (arith, first, none)
     by_test false is false out differ first rest = let few = rest differ in omega (arith, first, few)
 
 -- each is one of them
 all_in : (ids ds : List ℕ) → ((d : ℕ) → is_dropped ds d ≡ true → is_dropped ids d ≡ true) → list_all (is_dropped ids) ds ≡ true
 all_in ids [] more = refl
-all_in ids (d ∷ ds) more = rw (more d (first (d == d) (is_dropped ds d) (eq-eqb d d refl))) (all_in ids ds (λ k one. more k (second (d == k) (is_dropped ds k) one)))
-  where
-    first : (a b : Bool) → a ≡ true → (a || b) ≡ true
-    first a b e = rw e refl
-
-    second : (a b : Bool) → b ≡ true → (a || b) ≡ true
-    second true b e = refl
-    second false b e = e
+all_in ids (d ∷ ds) more = rw (more d (or_left (d == d) (is_dropped ds d) (eq-eqb d d refl))) (all_in ids ds (λ k one. more k (or_right (d == k) (is_dropped ds k) one)))
 
 -- ---- records
 
@@ -59,22 +52,15 @@ unfolding record_at
 going_there keep [] id r found goes = cc
 going_there keep (s ∷ ss) id r found goes = by_tests (s.id == id) (not (keep s.record)) refl refl found (going_there keep ss id r)
   where
-    one : (a b : Record) → Some a ≡ Some b → a ≡ b
-    one a b e = cc
-
     behind : (b : Bool) → list_any (λ (t : Stored). id == t.id) (going keep ss) ≡ true → list_any (λ (t : Stored). id == t.id) (cond b (s ∷ going keep ss) (going keep ss)) ≡ true
-    behind true rest = second (id == s.id) _ rest
-      where
-        second : (a b : Bool) → b ≡ true → (a || b) ≡ true
-        second true b e = refl
-        second false b e = e
+    behind true rest = or_right (id == s.id) _ rest
     behind false rest = rest
 
     by_tests : (a b : Bool) → (s.id == id) ≡ a → not (keep s.record) ≡ b → cond a (Some s.record) (record_at ss id) ≡ Some r → (record_at ss id ≡ Some r → not (keep r) ≡ true → list_any (λ (t : Stored). id == t.id) (going keep ss) ≡ true)
         → list_any (λ (t : Stored). id == t.id) (cond b (s ∷ going keep ss) (going keep ss)) ≡ true
     by_tests false b same is here rest = behind b (rest here goes)
     by_tests true true same is here rest = rw (eq-eqb id s.id (sym (eqb-true s.id id same))) refl
-    by_tests true false same is here rest = absurd (bool_apart (sym goes ∙ ap (λ (q : Record). not (keep q)) (sym (one s.record r here)) ∙ is))
+    by_tests true false same is here rest = absurd (true≢false (sym goes ∙ ap (λ (q : Record). not (keep q)) (sym (same_Some s.record r here)) ∙ is))
 
 -- ids of records that a test does not keep, each once, are no more than these
 pub few_gone : (ss : List Stored) (keep : Record → Bool) (ids : List ℕ) → AreDropped keep ids ss → ids_differ ids ≡ true → list_all (λ id. is_some (record_at ss id)) ids ≡ true → length ids ≤ length (going keep ss)
@@ -82,12 +68,12 @@ few_gone ss keep ids gone once there =
     partners (λ id (s : Stored). id == s.id) ids (going keep ss) (each ids (all_in ids ids (λ d one. one)) there) (λ s. count_in s.id ids once)
   where
     found : (id : ℕ) (o : Option Record) → record_at ss id ≡ o → is_some o ≡ true → is_dropped ids id ≡ true → list_any (λ (s : Stored). id == s.id) (going keep ss) ≡ true
-    found id None is some one = absurd (bool_apart (sym some))
+    found id None is some one = absurd (true≢false (sym some))
     found id (Some r) is some one = going_there keep ss id r is (sym (gone id r is) ∙ one)
 
     each : (ds : List ℕ) → list_all (is_dropped ids) ds ≡ true → list_all (λ id. is_some (record_at ss id)) ds ≡ true → All (λ id. list_any (λ (s : Stored). id == s.id) (going keep ss) ≡ true) ds
     each [] one some = All-nil (λ id. list_any (λ (s : Stored). id == s.id) (going keep ss) ≡ true)
     each (d ∷ ds) one some =
-        let h = both (is_dropped ids d) (list_all (is_dropped ids) ds) one in
-        let g = both (is_some (record_at ss d)) (list_all (λ id. is_some (record_at ss id)) ds) some in
+        let h = and_parts (is_dropped ids d) (list_all (is_dropped ids) ds) one in
+        let g = and_parts (is_some (record_at ss d)) (list_all (λ id. is_some (record_at ss id)) ds) some in
         All-cons (λ id. list_any (λ (s : Stored). id == s.id) (going keep ss) ≡ true) d ds (found d (record_at ss d) refl g.0 h.0) (each ds h.1 g.1)

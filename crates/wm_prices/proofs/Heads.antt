@@ -1,6 +1,6 @@
 -- The records that several edits change: by the rules there are three at most, that of the counters and those of two workspaces.
 use Rattle.std.proofs.Common.{◌≡◌, ℕ, ◌+◌, ◌≤◌, ◌==◌, Bool, true, false, not, ◌||◌, cond, List, [], ◌∷◌, ◌++◌, map, length, Some, refl, sym, ap, ◌∙◌, arith}
-use Rattle.std.proofs.lemmas.Bool.{eqb-true, eq-eqb}
+use Rattle.std.proofs.lemmas.Bool.{eqb-true, eq-eqb, and_parts, not-true, or_parts, true≢false}
 use Rattle.std.proofs.lemmas.List.{length-append}
 use Rattle.std.proofs.lemmas.List.Folds.{list_any-append}
 use Rattle.std.specs.List.{cons_option, count_by, filter_map, list_any}
@@ -16,7 +16,6 @@ use Rattle.wm_spec.specs.declared.record.space.Space.{Space}
 use Rattle.wm_spec.specs.declared.record.stored.Stored.{Stored}
 use Rattle.wm_state.proofs.Apart.{ruled}
 use Rattle.wm_state.proofs.Spaces.{ruled_spaces}
-use Rattle.wm_state.proofs.Tests.{both as both_true, bool_apart, either_false, not_true}
 use Rattle.wm_prices.specs.Prices.{ChangesAtMost, ChangesBeside, is_head}
 
 -- the record is that of the counters, or of one of two workspaces
@@ -39,8 +38,8 @@ fails_else test (s ∷ ss) id none = by_case (test s.record) (s.id == id) refl r
     by_case : (b a : Bool) → test s.record ≡ b → (s.id == id) ≡ a → list_any (λ k. k == id) (cond b (s.id ∷ ids_that test ss) (ids_that test ss)) ≡ false
         → (list_any (λ k. k == id) (ids_that test ss) ≡ false → option_map_or test (record_at ss id) false ≡ false)
         → option_map_or test (cond a (Some s.record) (record_at ss id)) false ≡ false
-    by_case true true is same e rest = absurd (bool_apart (sym same ∙ (either_false (s.id == id) (list_any (λ k. k == id) (ids_that test ss)) e).0))
-    by_case true false is same e rest = rest (either_false (s.id == id) (list_any (λ k. k == id) (ids_that test ss)) e).1
+    by_case true true is same e rest = absurd (true≢false (sym same ∙ (or_parts (s.id == id) (list_any (λ k. k == id) (ids_that test ss)) e).0))
+    by_case true false is same e rest = rest (or_parts (s.id == id) (list_any (λ k. k == id) (ids_that test ss)) e).1
     by_case false true is same e rest = is
     by_case false false is same e rest = rest e
 
@@ -74,21 +73,21 @@ counted_all n m (s ∷ ss) =
 counted_none : (k n : ℕ) (ss : List Space) → k ≡ n → list_any (λ (q : Space). k == q.number) ss ≡ false → count_by (has_number n) ss ≡ 0
 counted_none k n [] same none = refl
 counted_none k n (s ∷ ss) same none =
-    let h = either_false (k == s.number) (list_any (λ (q : Space). k == q.number) ss) none in
+    let h = or_parts (k == s.number) (list_any (λ (q : Space). k == q.number) ss) none in
     let rest = counted_none k n ss same h.1 in
     let first = count-cons (has_number n) s ss in
     by_test (s.number == n) refl first rest h.0
   where
     by_test : (b : Bool) → (s.number == n) ≡ b → count_by (has_number n) (s ∷ ss) ≡ cond b 1 0 + count_by (has_number n) ss → count_by (has_number n) ss ≡ 0 → (k == s.number) ≡ false → count_by (has_number n) (s ∷ ss) ≡ 0
-    by_test true is first rest other = absurd (bool_apart (sym (eq-eqb k s.number (same ∙ sym (eqb-true s.number n is))) ∙ other))
+    by_test true is first rest other = absurd (true≢false (sym (eq-eqb k s.number (same ∙ sym (eqb-true s.number n is))) ∙ other))
     by_test false is first rest other = omega (arith, first, rest)
 
 -- and one that no two have at most once
 counted_once : (n : ℕ) (ss : List Space) → differ (λ (r q : Space). r.number == q.number) ss ≡ true → count_by (has_number n) ss ≤ 1
 counted_once n [] apart = omega arith
 counted_once n (s ∷ ss) apart =
-    let h = both_true (not (list_any (λ (q : Space). s.number == q.number) ss)) (differ (λ (r q : Space). r.number == q.number) ss) apart in
-    by_test (s.number == n) refl (count-cons (has_number n) s ss) (not_true (list_any (λ (q : Space). s.number == q.number) ss) h.0) (counted_once n ss h.1)
+    let h = and_parts (not (list_any (λ (q : Space). s.number == q.number) ss)) (differ (λ (r q : Space). r.number == q.number) ss) apart in
+    by_test (s.number == n) refl (count-cons (has_number n) s ss) (not-true (list_any (λ (q : Space). s.number == q.number) ss) h.0) (counted_once n ss h.1)
   where
     by_test : (b : Bool) → (s.number == n) ≡ b → count_by (has_number n) (s ∷ ss) ≡ cond b 1 0 + count_by (has_number n) ss → list_any (λ (q : Space). s.number == q.number) ss ≡ false → count_by (has_number n) ss ≤ 1
         → count_by (has_number n) (s ∷ ss) ≤ 1
@@ -112,6 +111,6 @@ changes_in_all n m most old new rules c = record {
   ids = ids_that (is_either n m) old ++ c.ids;
   few = let both = length-append (ids_that (is_either n m) old) c.ids in let f = c.few in let h = few_heads n m old rules in omega (arith, both, f, h);
   others = λ id none.
-      let h = either_false (list_any (λ k. k == id) (ids_that (is_either n m) old)) (list_any (λ k. k == id) c.ids) (sym (list_any-append (λ k. k == id) (ids_that (is_either n m) old) c.ids) ∙ none) in
+      let h = or_parts (list_any (λ k. k == id) (ids_that (is_either n m) old)) (list_any (λ k. k == id) c.ids) (sym (list_any-append (λ k. k == id) (ids_that (is_either n m) old) c.ids) ∙ none) in
       c.others id h.1 (fails_else (is_either n m) old id h.0);
 }

@@ -1,6 +1,6 @@
 -- A batch that neither has the id of a mark nor puts one leaves all marks.
-use Rattle.std.proofs.Common.{◌≡◌, ℕ, ◌+◌, ◌≤◌, ◌==◌, nat_lt, Bool, true, false, not, ◌||◌, if◌then◌else◌, List, [], ◌∷◌, ◌++◌, map, Option, Some, None, refl, sym, ap, ◌∙◌, arith}
-use Rattle.std.proofs.lemmas.Bool.{eq-eqb}
+use Rattle.std.proofs.Common.{◌≡◌, ℕ, ◌+◌, ◌≤◌, ◌==◌, nat_lt, Bool, true, false, not, if◌then◌else◌, List, [], ◌∷◌, ◌++◌, map, Option, Some, None, refl, sym, ap, ◌∙◌, arith}
+use Rattle.std.proofs.lemmas.Bool.{eq-eqb, or_left, or_right, true≢false}
 use Rattle.std.specs.Option.{option_and_then}
 use Rattle.wm_graph.specs.Parts.{as_mark, parts_of}
 use Rattle.wm_spec.specs.Records.{record_at}
@@ -14,7 +14,6 @@ use Rattle.wm_spec.specs.declared.record.trace.Trace.{Trace}
 use Rattle.wm_state.proofs.ById.{Ascend-set, record_at-set}
 use Rattle.wm_state.proofs.ByKind.{kinds, under_found}
 use Rattle.wm_state.proofs.Settled.{Places}
-use Rattle.wm_state.proofs.Tests.{bool_apart}
 use Rattle.wm_state.specs.Batches.{AllUnder, AreDropped, drop_one, is_dropped, put}
 use Rattle.wm_state.specs.ById.{Ascend, applied, perhaps_before, set_at}
 use Rattle.wm_state.specs.Writes.{put_all}
@@ -76,19 +75,12 @@ leaves_append ss (c ∷ cs) ds one two = (one.0, one.1, leaves_append ss cs ds o
 leaves_dropped : (ss : List Stored) (keep : Record → Bool) (ids : List ℕ) → AreDropped keep ids ss → ((x : Trace) → keep (records.Mark x) ≡ true) → (ds : List ℕ) → ((d : ℕ) → is_dropped ds d ≡ true → is_dropped ids d ≡ true)
     → LeavesMarks ss (map drop_one ds)
 leaves_dropped ss keep ids gone kept [] more = tt
-leaves_dropped ss keep ids gone kept (d ∷ ds) more = (by_record (record_at ss d) refl, refl, leaves_dropped ss keep ids gone kept ds (λ k one. more k (second (d == k) (is_dropped ds k) one)))
+leaves_dropped ss keep ids gone kept (d ∷ ds) more = (by_record (record_at ss d) refl, refl, leaves_dropped ss keep ids gone kept ds (λ k one. more k (or_right (d == k) (is_dropped ds k) one)))
   where
-    first : (a b : Bool) → a ≡ true → (a || b) ≡ true
-    first a b e = rw e refl
-
-    second : (a b : Bool) → b ≡ true → (a || b) ≡ true
-    second true b e = refl
-    second false b e = e
-
     by_record : (o : Option Record) → record_at ss d ≡ o → NoMark o
     by_record None found = refl
     by_record (Some (records.Mark x)) found =
-        absurd (bool_apart (sym (more d (first (d == d) (is_dropped ds d) (eq-eqb d d refl))) ∙ gone d (records.Mark x) found ∙ ap not (kept x)))
+        absurd (true≢false (sym (more d (or_left (d == d) (is_dropped ds d) (eq-eqb d d refl))) ∙ gone d (records.Mark x) found ∙ ap not (kept x)))
     by_record (Some _) found = refl
 
 -- records of which none is a mark

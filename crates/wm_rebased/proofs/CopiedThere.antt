@@ -1,9 +1,10 @@
 -- What is copied is there: where all that is held is seen in some version, the records of its joined pieces are on cells of tables, with
 -- stamps that were given and rows that are there (copied_there); so it is of what a workspace has of its own (own_there).
 use Rattle.std.proofs.Common.{◌≡◌, ℕ, ◌<◌, ◌≤◌, ◌==◌, nat_le, nat_lt, Bool, true, false, ◌&&◌, ◌||◌, cond, if◌then◌else◌, List, [], ◌∷◌, map, Option, Some, None, is_some, refl, sym, ap, ◌∙◌, arith}
-use Rattle.std.proofs.lemmas.Bool.{eq-eqb, eqb-true}
+use Rattle.std.proofs.lemmas.Bool.{eq-eqb, eqb-true, and_from, and_parts, le-leb, lt-ltb}
 use Rattle.std.proofs.lemmas.List.Elements.{All-head, All-tail}
 use Rattle.std.proofs.lemmas.List.Folds.{list_all-append}
+use Rattle.std.proofs.lemmas.Option.{same_Some, none-some}
 use Rattle.std.specs.Bool.{then_some}
 use Rattle.std.specs.List.{All, list_all}
 use Rattle.std.specs.Option.{option_and_then, option_map_or, option_or}
@@ -22,7 +23,6 @@ use Rattle.wm_spec.specs.declared.record.table.Table.{Table}
 use Rattle.wm_tree.specs.declared.version.Version.{Version as Node}
 use Rattle.wm_state.specs.Standing.{covers_at, held_by, latest, newest_first, owned, seen, seen_at, stored_at}
 use Rattle.wm_state.proofs.Laying.{key_same}
-use Rattle.wm_state.proofs.Tests.{and_true, both}
 use Rattle.wm_state.specs.Copied.{AreCopied, HoldsKey, KeyPieces, key_cell, piece_for, pieces_for}
 use Rattle.wm_rebased.specs.Rebasing.{is_copied}
 use Rattle.wm_state.proofs.Owning.{own-seen}
@@ -37,32 +37,26 @@ record SaysSo (test : PieceRecord → Bool) (c : Cell) (h : Held) : Type 0 where
   key : piece.cells.key ≡ c.key
   says : held_by piece ≡ h
 
-some_held : (h k : Held) → Some h ≡ Some k → h ≡ k
-some_held h k e = cc
-
-none_held : (h : Held) → (let nothing : Option Held = None in nothing) ≡ Some h → ⊥
-none_held h e = cc
-
 stored_says : (test : PieceRecord → Bool) (xs : List PieceRecord) (v : ℕ) (c : Cell) (h : Held) → list_all test xs ≡ true → stored_at xs v c ≡ Some h → SaysSo test c h
-stored_says test [] v c h all is = absurd (none_held h is)
-stored_says test (x ∷ xs) v c h all is = by_test (covers_at x v c) refl (stored_says test xs v c h (both (test x) (list_all test xs) all).1)
+stored_says test [] v c h all is = absurd (none-some h is)
+stored_says test (x ∷ xs) v c h all is = by_test (covers_at x v c) refl (stored_says test xs v c h (and_parts (test x) (list_all test xs) all).1)
   where
     by_test : (b : Bool) → covers_at x v c ≡ b → (stored_at xs v c ≡ Some h → SaysSo test c h) → SaysSo test c h
     by_test true e rest =
-        let g = both (x.version == v) (((x.cells.table == c.table) && is_eq (key_order x.cells.key c.key)) && (nat_le x.cells.from c.time && nat_lt c.time x.cells.till)) e in
-        let j = both ((x.cells.table == c.table) && is_eq (key_order x.cells.key c.key)) (nat_le x.cells.from c.time && nat_lt c.time x.cells.till) g.1 in
-        let l = both (x.cells.table == c.table) (is_eq (key_order x.cells.key c.key)) j.0 in
+        let g = and_parts (x.version == v) (((x.cells.table == c.table) && is_eq (key_order x.cells.key c.key)) && (nat_le x.cells.from c.time && nat_lt c.time x.cells.till)) e in
+        let j = and_parts ((x.cells.table == c.table) && is_eq (key_order x.cells.key c.key)) (nat_le x.cells.from c.time && nat_lt c.time x.cells.till) g.1 in
+        let l = and_parts (x.cells.table == c.table) (is_eq (key_order x.cells.key c.key)) j.0 in
         record {
           piece = x;
-          passes = (both (test x) (list_all test xs) all).0;
+          passes = (and_parts (test x) (list_all test xs) all).0;
           table = eqb-true x.cells.table c.table l.0;
           key = key_same x.cells.key c.key l.1;
-          says = some_held (held_by x) h (sym (ap (λ d. option_or (then_some d (held_by x)) (stored_at xs v c)) e) ∙ is);
+          says = same_Some (held_by x) h (sym (ap (λ d. option_or (then_some d (held_by x)) (stored_at xs v c)) e) ∙ is);
         }
     by_test false e rest = rest (sym (ap (λ d. option_or (then_some d (held_by x)) (stored_at xs v c)) e) ∙ is)
 
 seen_says : (test : PieceRecord → Bool) (xs : List PieceRecord) (nodes : List Node) (v : ℕ) (c : Cell) (h : Held) → list_all test xs ≡ true → seen_at xs nodes v c ≡ Some h → SaysSo test c h
-seen_says test xs [] v c h all is = absurd (none_held h is)
+seen_says test xs [] v c h all is = absurd (none-some h is)
 seen_says test xs (x ∷ older) v c h all is =
     by_test (x.number == v) (stored_at xs v c) refl is (seen_says test xs older x.parent c h all) (seen_says test xs older v c h all)
   where
@@ -115,34 +109,28 @@ module _ (p : Parts) (next version : ℕ) where
       → is_piece (table_of p.tables) (version_of p.versions) (row_of p.rows) next y ≡ true → is_copied p version next (piece_for version table key x) ≡ true
   unfolding has_row
   says_copied table key x y in_table of_key says some till is =
-      let h = both (is_some (version_of p.versions y.version)) _ is in
-      let g = both (are_cells (table_of p.tables) y.cells) _ h.1 in
-      let c = both (nat_lt y.cells.from y.cells.till && nat_le y.cells.till END) (option_map_or (is_key_of y.cells.key) (table_of p.tables y.cells.table) false) g.0 in
-      let j = both (nat_lt y.stamp next) (has_row y.cells.table y.cells.key y.stamp y.gone) g.1 in
+      let h = and_parts (is_some (version_of p.versions y.version)) _ is in
+      let g = and_parts (are_cells (table_of p.tables) y.cells) _ h.1 in
+      let c = and_parts (nat_lt y.cells.from y.cells.till && nat_le y.cells.till END) (option_map_or (is_key_of y.cells.key) (table_of p.tables y.cells.table) false) g.0 in
+      let j = and_parts (nat_lt y.stamp next) (has_row y.cells.table y.cells.key y.stamp y.gone) g.1 in
       let stamp : y.stamp ≡ x.stamp.number = ap (λ (k : Held). k.stamp.number) says in
-      and_true (version == version) _ (eq-eqb version version refl)
-      (and_true (are_cells (table_of p.tables) (piece_for version table key x).cells) _
-      (and_true (nat_lt x.period.from x.period.till && nat_le x.period.till END) (option_map_or (is_key_of key) (table_of p.tables table) false)
-      (and_true (nat_lt x.period.from x.period.till) (nat_le x.period.till END) (less x.period.from x.period.till some) (most x.period.till END till))
+      and_from (version == version) _ (eq-eqb version version refl)
+      (and_from (are_cells (table_of p.tables) (piece_for version table key x).cells) _
+      (and_from (nat_lt x.period.from x.period.till && nat_le x.period.till END) (option_map_or (is_key_of key) (table_of p.tables table) false)
+      (and_from (nat_lt x.period.from x.period.till) (nat_le x.period.till END) (lt-ltb x.period.from x.period.till some) (le-leb x.period.till END till))
       (ap (λ n. option_map_or (is_key_of key) (table_of p.tables n) false) (sym in_table) ∙ ap (λ l. option_map_or (is_key_of l) (table_of p.tables y.cells.table) false) (sym of_key) ∙ c.1))
-      (and_true (nat_lt x.stamp.number next) (has_row table key x.stamp.number x.gone) (ap (λ n. nat_lt n next) (sym stamp) ∙ j.0)
+      (and_from (nat_lt x.stamp.number next) (has_row table key x.stamp.number x.gone) (ap (λ n. nat_lt n next) (sym stamp) ∙ j.0)
       (ap (λ n. has_row n key x.stamp.number x.gone) (sym in_table)
       ∙ ap (λ l. has_row y.cells.table l x.stamp.number x.gone) (sym of_key)
       ∙ ap (λ n. has_row y.cells.table y.cells.key n x.gone) (sym stamp)
       ∙ ap (has_row y.cells.table y.cells.key y.stamp) (sym (ap (λ (k : Held). k.gone) says))
       ∙ j.1)))
-    where
-      less : (m n : ℕ) → m < n → nat_lt m n ≡ true
-      less m n lt = grind (arith, lt)
-
-      most : (m n : ℕ) → m ≤ n → nat_le m n ≡ true
-      most m n le = grind (arith, le)
 
   -- ---- the law
 
   module _ (f : Cell → Option Held) (rule : are_pieces p next ≡ true) (sees : (c : Cell) (h : Held) → f c ≡ Some h → (v : ℕ) × (seen p v c ≡ Some h)) where
     all : list_all (is_piece (table_of p.tables) (version_of p.versions) (row_of p.rows) next) p.pieces ≡ true
-    all = (both (differ collide p.pieces) (list_all (is_piece (table_of p.tables) (version_of p.versions) (row_of p.rows) next) p.pieces) rule).1
+    all = (and_parts (differ collide p.pieces) (list_all (is_piece (table_of p.tables) (version_of p.versions) (row_of p.rows) next) p.pieces) rule).1
 
     says : (c : Cell) (h : Held) → f c ≡ Some h → SaysSo (is_piece (table_of p.tables) (version_of p.versions) (row_of p.rows) next) c h
     says c h is = let y = sees c h is in seen_says (is_piece (table_of p.tables) (version_of p.versions) (row_of p.rows) next) p.pieces (newest_first p.versions) y.0 c h all y.1
@@ -151,7 +139,7 @@ module _ (p : Parts) (next version : ℕ) where
     key_there k [] begin = refl
     key_there k (x ∷ xs) begin =
         let y = says (key_cell k x.period.from) (held x) begin.0 in
-        and_true (is_copied p version next (piece_for version k.table k.key x)) (list_all (is_copied p version next) (map (piece_for version k.table k.key) xs))
+        and_from (is_copied p version next (piece_for version k.table k.key x)) (list_all (is_copied p version next) (map (piece_for version k.table k.key) xs))
         (says_copied k.table k.key x y.piece y.table y.key y.says begin.1 begin.2 y.passes) (key_there k xs begin.3)
 
     keys_there : (ks : List KeyPieces) → All (HoldsKey f) ks → list_all (is_copied p version next) (pieces_for version ks) ≡ true
@@ -159,7 +147,7 @@ module _ (p : Parts) (next version : ℕ) where
     keys_there (k ∷ ks) each =
         let h = All-head (HoldsKey f) k ks each in
         list_all-append (is_copied p version next) (map (piece_for version k.table k.key) k.pieces) (pieces_for version ks)
-        ∙ and_true (list_all (is_copied p version next) (map (piece_for version k.table k.key) k.pieces)) (list_all (is_copied p version next) (pieces_for version ks))
+        ∙ and_from (list_all (is_copied p version next) (map (piece_for version k.table k.key) k.pieces)) (list_all (is_copied p version next) (pieces_for version ks))
         (key_there k k.pieces (all_begin (λ t. f (key_cell k t)) k.pieces 0 END h.lie (λ t le. sym (h.holds t))))
         (keys_there ks (All-tail (HoldsKey f) k ks each))
 
@@ -172,5 +160,5 @@ pub own_there : (p : Parts) (next version base n : ℕ) (emptied : Bool) (ks : L
 own_there p next version base n emptied ks rule copied = copied_there p next version (λ c. if emptied then None else owned p base n c) rule (λ c h is. (latest p n, by_emptied c h emptied is)) ks copied
   where
     by_emptied : (c : Cell) (h : Held) (b : Bool) → (if b then None else owned p base n c) ≡ Some h → seen p (latest p n) c ≡ Some h
-    by_emptied c h true is = absurd (none_held h is)
+    by_emptied c h true is = absurd (none-some h is)
     by_emptied c h false is = own-seen p.pieces (newest_first p.versions) base (latest p n) c h is

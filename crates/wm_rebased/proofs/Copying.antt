@@ -1,13 +1,14 @@
 -- What the records of joined pieces hold, key by key: the version holds at each cell what is held there (stored_copied), each piece ends
 -- where that changes (ends_copied), and no two collide (differ_copied).
-use Rattle.std.proofs.Common.{◌≡◌, ℕ, ◌<◌, ◌≤◌, ◌==◌, nat_lt, Bool, true, false, not, ◌&&◌, ◌||◌, List, [], ◌∷◌, ◌++◌, map, Option, Some, None, refl, sym, ap, ◌∙◌, arith}
-use Rattle.std.proofs.lemmas.Bool.{eq-eqb, eqb-true}
+use Rattle.std.proofs.Common.{◌≡◌, ℕ, ◌<◌, ◌≤◌, ◌==◌, nat_lt, Bool, true, false, not, ◌&&◌, ◌||◌, List, [], ◌∷◌, map, Option, None, refl, sym, ap, ◌∙◌, arith, le_refl}
+use Rattle.std.proofs.lemmas.Bool.{eq-eqb, eqb-true, and_from, and_parts, not-true, or_from, or_parts}
 use Rattle.std.proofs.lemmas.List.Elements.{All-append, All-cons, All-head, All-nil, All-tail}
 use Rattle.std.proofs.lemmas.List.Folds.{list_any-append}
 use Rattle.std.specs.Bool.{then_some}
 use Rattle.std.specs.List.{All, list_all, list_any}
 use Rattle.std.specs.Option.{option_or}
 use Rattle.std.specs.Ordering.{is_eq}
+use Rattle.wm_base.proofs.Plain.{option_or-none}
 use Rattle.wm_base.specs.Key.{key_order}
 use Rattle.wm_base.specs.Period.{covers}
 use Rattle.wm_base.specs.declared.instant.TheConstants.{END}
@@ -21,8 +22,8 @@ use Rattle.wm_spec.specs.declared.record.piece.PieceRecord.{PieceRecord}
 use Rattle.wm_state.specs.Standing.{held_by, stored_at}
 use Rattle.wm_state.proofs.Laying.{key_itself, key_same, stored-append}
 use Rattle.wm_state.proofs.Mapped.{any-if}
-use Rattle.wm_state.proofs.Tests.{and_true, both, either_false, not_true}
 use Rattle.wm_state.specs.Copied.{AreCopied, HoldsKey, KeyPieces, is_at, key_cell, piece_for, pieces_for, same_key}
+use Rattle.wm_state.proofs.Appending.{differ_append}
 use Rattle.wm_rebased.specs.Rebasing.{Changes, Ends}
 use Rattle.wm_rebased.proofs.RebasingEnds.{Changes-same}
 use Rattle.wm_rebased.proofs.RebasingJoined.{AllChange, joined_change}
@@ -63,7 +64,7 @@ stored_away version table key c away (x ∷ xs) =
 none_at : (version : ℕ) (c : Cell) (ks : List KeyPieces) → list_any (is_at c) ks ≡ false → stored_at (pieces_for version ks) version c ≡ None
 none_at version c [] none = refl
 none_at version c (k ∷ ks) none =
-    let h = either_false (is_at c k) (list_any (is_at c) ks) none in
+    let h = or_parts (is_at c k) (list_any (is_at c) ks) none in
     stored-append (map (piece_for version k.table k.key) k.pieces) (pieces_for version ks) version c
     ∙ ap (λ o. option_or o (stored_at (pieces_for version ks) version c)) (stored_away version k.table k.key c h.0 k.pieces)
     ∙ none_at version c ks h.1
@@ -71,7 +72,7 @@ none_at version c (k ∷ ks) none =
 -- a cell of the table and the key is the key's at its moment
 same_cell : (k : KeyPieces) (c : Cell) → is_at c k ≡ true → key_cell k c.time ≡ c
 same_cell k c at =
-    let h = both (k.table == c.table) (is_eq (key_order k.key c.key)) at in
+    let h = and_parts (k.table == c.table) (is_eq (key_order k.key c.key)) at in
     ap (λ (n : ℕ). let d : Cell = record { table = n; key = k.key; time = c.time } in d) (eqb-true k.table c.table h.0)
     ∙ ap (λ (l : List Value). let d : Cell = record { table = c.table; key = l; time = c.time } in d) (key_same k.key c.key h.1)
 
@@ -81,27 +82,23 @@ others_away k c ks at none = any-if (same_key k) (is_at c) (λ l is. same l is) 
   where
     same : (l : KeyPieces) → is_at c l ≡ true → same_key k l ≡ true
     same l is =
-        let h = both (k.table == c.table) (is_eq (key_order k.key c.key)) at in
-        let g = both (l.table == c.table) (is_eq (key_order l.key c.key)) is in
-        and_true (k.table == l.table) (is_eq (key_order k.key l.key)) (eq-eqb k.table l.table (eqb-true k.table c.table h.0 ∙ sym (eqb-true l.table c.table g.0)))
+        let h = and_parts (k.table == c.table) (is_eq (key_order k.key c.key)) at in
+        let g = and_parts (l.table == c.table) (is_eq (key_order l.key c.key)) is in
+        and_from (k.table == l.table) (is_eq (key_order k.key l.key)) (eq-eqb k.table l.table (eqb-true k.table c.table h.0 ∙ sym (eqb-true l.table c.table g.0)))
         (ap (λ (m : List Value). is_eq (key_order k.key m)) (key_same l.key c.key g.1 ∙ sym (key_same k.key c.key h.1)) ∙ key_itself k.key)
 
 stored_some : (version : ℕ) (f : Cell → Option Held) (c : Cell) (ks : List KeyPieces) → differ same_key ks ≡ true → All (HoldsKey f) ks → (list_any (is_at c) ks ≡ false → f c ≡ None) → stored_at (pieces_for version ks) version c ≡ f c
 stored_some version f c [] apart each elsewhere = sym (elsewhere refl)
 stored_some version f c (k ∷ ks) apart each elsewhere =
     stored-append (map (piece_for version k.table k.key) k.pieces) (pieces_for version ks) version c
-    ∙ by_test (is_at c k) refl (stored_some version f c ks (both (not (list_any (same_key k) ks)) (differ same_key ks) apart).1 (All-tail (HoldsKey f) k ks each))
+    ∙ by_test (is_at c k) refl (stored_some version f c ks (and_parts (not (list_any (same_key k) ks)) (differ same_key ks) apart).1 (All-tail (HoldsKey f) k ks each))
   where
-    or-none : (o : Option Held) → option_or o None ≡ o
-    or-none None = refl
-    or-none (Some h) = refl
-
     by_test : (b : Bool) → is_at c k ≡ b → ((list_any (is_at c) ks ≡ false → f c ≡ None) → stored_at (pieces_for version ks) version c ≡ f c)
         → option_or (stored_at (map (piece_for version k.table k.key) k.pieces) version c) (stored_at (pieces_for version ks) version c) ≡ f c
     by_test true at rest =
         ap (option_or (stored_at (map (piece_for version k.table k.key) k.pieces) version c))
-        (none_at version c ks (others_away k c ks at (not_true (list_any (same_key k) ks) (both (not (list_any (same_key k) ks)) (differ same_key ks) apart).0)))
-        ∙ or-none (stored_at (map (piece_for version k.table k.key) k.pieces) version c)
+        (none_at version c ks (others_away k c ks at (not-true (list_any (same_key k) ks) (and_parts (not (list_any (same_key k) ks)) (differ same_key ks) apart).0)))
+        ∙ option_or-none (stored_at (map (piece_for version k.table k.key) k.pieces) version c)
         ∙ stored_here version k.table k.key c at k.pieces
         ∙ (All-head (HoldsKey f) k ks each).holds c.time
         ∙ ap f (same_cell k c at)
@@ -138,19 +135,6 @@ ends_copied version f ks copied = ends_all version f (pieces_for version ks) (st
 
 -- ---- no two collide
 
--- two lists in each of which no two are the same, where none of the first is one of the second
-pub differ_both : {A : Type 0} (same : A → A → Bool) (xs ys : List A) → differ same xs ≡ true → differ same ys ≡ true → list_all (λ x. not (list_any (same x) ys)) xs ≡ true → differ same (xs ++ ys) ≡ true
-differ_both same [] ys e f none = f
-differ_both same (x ∷ xs) ys e f none =
-    let h = both (not (list_any (same x) xs)) (differ same xs) e in
-    let g = both (not (list_any (same x) ys)) (list_all (λ z. not (list_any (same z) ys)) xs) none in
-    and_true (not (list_any (same x) (xs ++ ys))) (differ same (xs ++ ys))
-    (ap not (list_any-append (same x) xs ys ∙ neither (list_any (same x) xs) (list_any (same x) ys) (not_true (list_any (same x) xs) h.0) (not_true (list_any (same x) ys) g.0)))
-    (differ_both same xs ys h.1 f g.1)
-  where
-    neither : (b c : Bool) → b ≡ false → c ≡ false → (b || c) ≡ false
-    neither b c is are = rw (is, are) refl
-
 -- what lies behind a piece shares no moment with it
 none_behind : (version table : ℕ) (key : List Value) (x : Piece) (low high : ℕ) (ys : List Piece) → x.period.till ≤ low → Between low ys high → list_any (collide (piece_for version table key x)) (map (piece_for version table key) ys) ≡ false
 none_behind version table key x low high [] le lie = refl
@@ -174,11 +158,8 @@ none_behind version table key x low high (y ∷ ys) le lie =
 differ_key : (version table : ℕ) (key : List Value) (low high : ℕ) (xs : List Piece) → Between low xs high → differ collide (map (piece_for version table key) xs) ≡ true
 differ_key version table key low high [] lie = refl
 differ_key version table key low high (x ∷ xs) lie =
-    and_true (not (list_any (collide (piece_for version table key x)) (map (piece_for version table key) xs))) (differ collide (map (piece_for version table key) xs))
-    (ap not (none_behind version table key x x.period.till high xs (itself x.period.till) lie.2)) (differ_key version table key x.period.till high xs lie.2)
-  where
-    itself : (n : ℕ) → n ≤ n
-    itself n = omega arith
+    and_from (not (list_any (collide (piece_for version table key x)) (map (piece_for version table key) xs))) (differ collide (map (piece_for version table key) xs))
+    (ap not (none_behind version table key x x.period.till high xs (le_refl x.period.till) lie.2)) (differ_key version table key x.period.till high xs lie.2)
 
 -- nor do pieces of two keys
 none_of_key : (version : ℕ) (k l : KeyPieces) (x : Piece) → same_key k l ≡ false → (ys : List Piece) → list_any (collide (piece_for version k.table k.key x)) (map (piece_for version l.table l.key) ys) ≡ false
@@ -193,18 +174,18 @@ none_of_key version k l x apart (y ∷ ys) =
 none_of_keys : (version : ℕ) (k : KeyPieces) (x : Piece) (ls : List KeyPieces) → list_any (same_key k) ls ≡ false → list_any (collide (piece_for version k.table k.key x)) (pieces_for version ls) ≡ false
 none_of_keys version k x [] apart = refl
 none_of_keys version k x (l ∷ ls) apart =
-    let h = either_false (same_key k l) (list_any (same_key k) ls) apart in
+    let h = or_parts (same_key k l) (list_any (same_key k) ls) apart in
     list_any-append (collide (piece_for version k.table k.key x)) (map (piece_for version l.table l.key) l.pieces) (pieces_for version ls)
     ∙ rw (none_of_key version k l x h.0 l.pieces, none_of_keys version k x ls h.1) refl
 
 differ_keys : (version : ℕ) (f : Cell → Option Held) (ks : List KeyPieces) → differ same_key ks ≡ true → All (HoldsKey f) ks → differ collide (pieces_for version ks) ≡ true
 differ_keys version f [] apart each = refl
 differ_keys version f (k ∷ ks) apart each =
-    let h = both (not (list_any (same_key k) ks)) (differ same_key ks) apart in
-    differ_both collide (map (piece_for version k.table k.key) k.pieces) (pieces_for version ks)
+    let h = and_parts (not (list_any (same_key k) ks)) (differ same_key ks) apart in
+    differ_append collide (map (piece_for version k.table k.key) k.pieces) (pieces_for version ks)
     (differ_key version k.table k.key 0 END k.pieces (All-head (HoldsKey f) k ks each).lie)
     (differ_keys version f ks h.1 (All-tail (HoldsKey f) k ks each))
-    (all_apart (not_true (list_any (same_key k) ks) h.0) k.pieces)
+    (all_apart (not-true (list_any (same_key k) ks) h.0) k.pieces)
   where
     all_apart : list_any (same_key k) ks ≡ false → (xs : List Piece) → list_all (λ z. not (list_any (collide z) (pieces_for version ks))) (map (piece_for version k.table k.key) xs) ≡ true
     all_apart none [] = refl

@@ -2,6 +2,8 @@
 use Rattle.std.proofs.Common.{◌≡◌, ℕ, ◌+◌, Bool, true, false, if◌then◌else◌, List, [], ◌∷◌, ◌++◌, map, Option, Some, None, is_some, refl, sym, ap, subst, ◌∙◌}
 use Rattle.std.proofs.lemmas.List.Elements.{All-head, All-tail}
 use Rattle.std.proofs.lemmas.List.Folds.{list_all-append}
+use Rattle.std.proofs.lemmas.Bool.{and_from, true≢false}
+use Rattle.std.proofs.lemmas.Option.{same_Some}
 use Rattle.std.specs.List.{All, list_all, list_any}
 use Rattle.std.specs.Option.{option_and_then, option_map, unwrap_or}
 use Rattle.std.specs.declared.alloc.Global.{Global}
@@ -37,10 +39,8 @@ use Rattle.wm_state.proofs.ByKind.{under_found}
 use Rattle.wm_state.proofs.Counting.{counts_as, counts_in, version_well, work_grows}
 use Rattle.wm_state.proofs.Drafted.{some_edit}
 use Rattle.wm_state.proofs.Growing.{same_counters}
-use Rattle.wm_state.proofs.Named.{one_space}
 use Rattle.wm_state.proofs.RowsStay.{away_append, away_dropped, away_put, row_apart, rows_stay}
 use Rattle.wm_state.proofs.Settled.{Places}
-use Rattle.wm_state.proofs.Tests.{and_true, bool_apart}
 use Rattle.wm_state.proofs.WorkedOn.{counted_put, first_change}
 use Rattle.wm_written.proofs.WrittenKept.{keeps_key, kept_dropped, kept_pieces, kept_put}
 use Rattle.wm_rebased.specs.Rebasing.{AreMarksOf, rebase_batch, rebased_on, turn_record}
@@ -57,7 +57,7 @@ keeps_pieces : (held : Cell → Option Held) → ((c : Cell) → is_some (held c
     → list_all keeps_key (map (piece_for version k.table k.key) xs) ≡ true
 keeps_pieces held keeps version k [] begin = refl
 keeps_pieces held keeps version k (x ∷ xs) begin =
-    and_true (list_all can_keep k.key) (list_all keeps_key (map (piece_for version k.table k.key) xs)) (keeps (key_cell k x.period.from) (ap is_some begin.0)) (keeps_pieces held keeps version k xs begin.3)
+    and_from (list_all can_keep k.key) (list_all keeps_key (map (piece_for version k.table k.key) xs)) (keeps (key_cell k x.period.from) (ap is_some begin.0)) (keeps_pieces held keeps version k xs begin.3)
 
 -- and those of all keys
 keeps_keys : (held : Cell → Option Held) → ((c : Cell) → is_some (held c) ≡ true → list_all can_keep c.key ≡ true) → (version : ℕ) (ks : List KeyPieces) → All (HoldsKey held) ks → list_all keeps_key (pieces_for version ks) ≡ true
@@ -65,7 +65,7 @@ keeps_keys held keeps version [] each = refl
 keeps_keys held keeps version (k ∷ ks) each =
     let h = All-head (HoldsKey held) k ks each in
     list_all-append keeps_key (map (piece_for version k.table k.key) k.pieces) (pieces_for version ks)
-    ∙ and_true (list_all keeps_key (map (piece_for version k.table k.key) k.pieces)) (list_all keeps_key (pieces_for version ks))
+    ∙ and_from (list_all keeps_key (map (piece_for version k.table k.key) k.pieces)) (list_all keeps_key (pieces_for version ks))
     (keeps_pieces held keeps version k k.pieces (all_begin (λ t. held (key_cell k t)) k.pieces 0 END h.lie (λ t le. sym (h.holds t))))
     (keeps_keys held keeps version ks (All-tail (HoldsKey held) k ks each))
 
@@ -75,10 +75,10 @@ keeps_own : (p : Parts) (emptied : Bool) (a : Space) → CanRebase p a.number em
 keeps_own p emptied a can there c = by_emptied emptied refl
   where
     same : can.space ≡ a
-    same = one_space can.space a (sym can.there ∙ there)
+    same = same_Some can.space a (sym can.there ∙ there)
 
     by_emptied : (d : Bool) → emptied ≡ d → is_some (if d then None else owned p a.base_version a.number c) ≡ true → list_all can_keep c.key ≡ true
-    by_emptied true is some = absurd (bool_apart (sym some))
+    by_emptied true is some = absurd (true≢false (sym some))
     by_emptied false is some = can.kept is c (ap (λ (r : Space). is_some (owned p r.base_version a.number c)) same ∙ some)
 
 -- ---- the edit
@@ -129,9 +129,9 @@ drafts_rebase rs m work emptied c a b counters_id space_id id ids ks rules can_w
   kept = kept_dropped ids _ (kept_put id behind (kept_pieces news (keeps_keys _ (keeps_own (parts_of rs) emptied a can there) c.next_version ks copied.each)));
   counted = λ some_edits. counted_put rs work counters_id c d batch at.sorted at.one once (first_change counters_id _ _) keeps refl;
   nothing = some_edit (edits.Rebase a.number emptied) [] batch;
-  few = λ forks. absurd (bool_apart (sym forks));
+  few = λ forks. absurd (true≢false (sym forks));
   spared = λ i entries one_append. absurd (no_append i entries one_append);
-  turned = λ left. absurd (bool_apart (sym left));
+  turned = λ left. absurd (true≢false (sym left));
 }
   where
     no_append : (i : ℕ) (entries : Vec NewEntry Global) → edits.Rebase a.number emptied ∷ [] ≡ edits.Append i entries ∷ [] → ⊥
@@ -156,7 +156,7 @@ drafts_rebase rs m work emptied c a b counters_id space_id id ids ks rules can_w
     rule = let r = ruled (parts_of rs) rules in ap (λ (k : Counters). are_pieces (parts_of rs) k.next_stamp) (sym (same_counters (parts_of rs) c r.counters at.one r.one)) ∙ r.pieces
 
     free : list_any (is_turn a.number (a.rebases + 1)) (parts_of rs).turns ≡ false
-    free = ap (λ (r : Space). list_any (is_turn a.number (r.rebases + 1)) (parts_of rs).turns) (one_space a can.space (sym there ∙ can.there)) ∙ can.unturned
+    free = ap (λ (r : Space). list_any (is_turn a.number (r.rebases + 1)) (parts_of rs).turns) (same_Some a can.space (sym there ∙ can.there)) ∙ can.unturned
 
     may : (front back : List Space) → (parts_of rs).spaces ≡ front ++ a ∷ back → MayRebase (parts_of rs) c d front a back b emptied y news
     may front back spaces = record {

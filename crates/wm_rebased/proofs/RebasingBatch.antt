@@ -1,6 +1,6 @@
 -- The records keep the rules and stand for the state after the batch of a workspace that is rebased.
 use Rattle.std.proofs.Common.{◌≡◌, ℕ, ◌+◌, nat_lt, Bool, true, false, cond, List, [], ◌∷◌, ◌++◌, map, append-nil, append_assoc, Some, refl, sym, ap, subst, ◌∙◌}
-use Rattle.std.proofs.lemmas.Bool.{ne_eqb}
+use Rattle.std.proofs.lemmas.Bool.{ne_eqb, and_from, lt-ltb}
 use Rattle.std.specs.List.{filter}
 use Rattle.wm_graph.specs.Parts.{Parts, as_space, parts_of}
 use Rattle.wm_graph.specs.Rules.{keep_rules}
@@ -25,10 +25,9 @@ use Rattle.wm_state.proofs.ByKind.{Split, kinds, set-split, split_of, stored}
 use Rattle.wm_state.proofs.Planned.{AllUnder-filter, AllUnder-set, applied-append, counted, found_still}
 use Rattle.wm_state.proofs.Planning.{parts-spaced, recounted, spaces-split}
 use Rattle.wm_state.proofs.Settled.{Places, PlacesApart, places_apart}
-use Rattle.wm_state.proofs.Tests.{and_true}
 use Rattle.wm_forked.proofs.PlannedSaved.{AllUnder-more, more_turn, more_version}
 use Rattle.wm_written.proofs.Behind.{parts-entered}
-use Rattle.wm_written.proofs.DraftedWritten.{all_below, lt_test, two_before}
+use Rattle.wm_written.proofs.DraftedWritten.{all_below, two_before}
 use Rattle.wm_written.proofs.Dropping.{dropped, dropped-set}
 use Rattle.wm_written.proofs.Ids.{are_under, are_under-push, ids_differ-push, ids_of-dropped}
 use Rattle.wm_rebased.specs.Rebasing.{AreMarksOf, IsRebase, is_elsewhere, keeps_unmarked, rebase_batch, rebased_on, turn_record}
@@ -184,7 +183,7 @@ changes-put_on rs counters_id space_id id c new a now ids y u news at marks =
     ap (λ xs. ids_differ (counters_id ∷ space_id ∷ xs)) (ids_of-dropped ids _)
     ∙ ids-behind id (records.Version y ∷ records.Turn u ∷ map records.Piece news) (counters_id ∷ space_id ∷ ids)
     (two_before counters_id space_id ids (ne_eqb space_id counters_id (λ same. apart.apart (sym same))) (marks.gone counters_id (records.Counters c) at.counters) (marks.gone space_id (records.Space a) at.space) marks.once)
-    (and_true (nat_lt counters_id id) _ (lt_test counters_id id apart.counters) (and_true (nat_lt space_id id) (are_under id ids) (lt_test space_id id apart.space) (all_below rs id ids at.under marks.there)))
+    (and_from (nat_lt counters_id id) _ (lt-ltb counters_id id apart.counters) (and_from (nat_lt space_id id) (are_under id ids) (lt-ltb space_id id apart.space) (all_below rs id ids at.under marks.there)))
   where
     apart : PlacesApart counters_id space_id id
     apart = places_apart rs counters_id space_id id c a at

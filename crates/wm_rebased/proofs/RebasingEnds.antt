@@ -2,6 +2,7 @@
 -- hold the same.
 use Rattle.std.proofs.Common.{◌≡◌, ℕ, zero, suc, ◌==◌, nat_le, nat_lt, Bool, true, false, ◌&&◌, ◌||◌, List, [], ◌∷◌, Option, None, refl, sym, ap, ◌∙◌, arith}
 use Rattle.std.proofs.lemmas.List.Elements.{All-head, All-tail}
+use Rattle.std.proofs.lemmas.Bool.{and_from, or_parts}
 use Rattle.std.specs.List.{All, list_all}
 use Rattle.std.specs.Option.{option_map}
 use Rattle.std.specs.Ordering.{is_eq}
@@ -11,7 +12,6 @@ use Rattle.wm_spec.specs.Lists.{Cell, Entry, told}
 use Rattle.wm_spec.specs.declared.record.cell_range.CellRange.{CellRange}
 use Rattle.wm_spec.specs.declared.record.piece.PieceRecord.{PieceRecord}
 use Rattle.wm_state.specs.Standing.{has_ends, held_of, is_end, stored_at}
-use Rattle.wm_state.proofs.Tests.{and_true, either_false}
 use Rattle.wm_rebased.specs.Rebasing.{Changes, Ends, cell_at}
 
 -- an entry that does not begin or end at a moment covers it as it covers the one before
@@ -33,13 +33,13 @@ first_covers false from till e = refl
 same_told : (es : List Entry) (cells : CellRange) (t : ℕ) → is_end es cells (suc t) ≡ false → told es (cell_at cells t) ≡ told es (cell_at cells (suc t))
 same_told [] cells t e = refl
 same_told (x ∷ es) cells t e =
-    let h = either_false (((x.table == cells.table) && is_eq (key_order x.key cells.key)) && ((x.from == suc t) || (x.till == suc t))) (is_end es cells (suc t)) e in
+    let h = or_parts (((x.table == cells.table) && is_eq (key_order x.key cells.key)) && ((x.from == suc t) || (x.till == suc t))) (is_end es cells (suc t)) e in
     rw (same_told es cells t h.1, same_covers ((x.table == cells.table) && is_eq (key_order x.key cells.key)) x.from x.till t h.0) refl
 
 none_first : (es : List Entry) (cells : CellRange) → is_end es cells 0 ≡ false → told es (cell_at cells 0) ≡ None
 none_first [] cells e = refl
 none_first (x ∷ es) cells e =
-    let h = either_false (((x.table == cells.table) && is_eq (key_order x.key cells.key)) && ((x.from == 0) || (x.till == 0))) (is_end es cells 0) e in
+    let h = or_parts (((x.table == cells.table) && is_eq (key_order x.key cells.key)) && ((x.from == 0) || (x.till == 0))) (is_end es cells 0) e in
     rw (none_first es cells h.1, first_covers ((x.table == cells.table) && is_eq (key_order x.key cells.key)) x.from x.till h.0) refl
 
 -- where what they hold changes, one of them begins or ends
@@ -66,8 +66,8 @@ pub ends_own : (number : ℕ) (all : List PieceRecord) (es : List Entry) → ((c
 ends_own number all es holds [] ends = refl
 ends_own number all es holds (x ∷ xs) ends =
     let h = All-head (Ends number all) x xs ends in
-    and_true (has_ends es x.cells) (list_all (λ (y : PieceRecord). has_ends es y.cells) xs)
-    (and_true (is_end es x.cells x.cells.from) (is_end es x.cells x.cells.till) (at x.cells.from h.from) (at x.cells.till h.till))
+    and_from (has_ends es x.cells) (list_all (λ (y : PieceRecord). has_ends es y.cells) xs)
+    (and_from (is_end es x.cells x.cells.from) (is_end es x.cells x.cells.till) (at x.cells.from h.from) (at x.cells.till h.till))
     (ends_own number all es holds xs (All-tail (Ends number all) x xs ends))
   where
     at : (t : ℕ) → Changes (λ time. stored_at all number (cell_at x.cells time)) t → is_end es x.cells t ≡ true

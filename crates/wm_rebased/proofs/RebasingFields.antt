@@ -1,27 +1,24 @@
 -- A workspace was rebased: what is looked up then, and the fields of the records. RebasingNamed and RebasingStands have the clauses on
 -- what is held.
 use Rattle.std.proofs.Common.{◌≡◌, ◌≢◌, ℕ, zero, suc, ◌+◌, ◌<◌, ◌≤◌, ◌==◌, nat_lt, Bool, true, false, ◌&&◌, cond, if◌then◌else◌, List, [], ◌∷◌, ◌++◌, length, Option, Some, None, is_some, refl, sym, ap, ◌∙◌, ◌⊎◌, inl, inr, arith}
-use Rattle.std.proofs.lemmas.Bool.{cases_eq, eq-eqb, ne_eqb}
-use Rattle.std.proofs.lemmas.Option.{slice_get_past}
-use Rattle.std.specs.List.{list_any, slice_get}
+use Rattle.std.proofs.lemmas.Bool.{cases_eq, eq-eqb, ne_eqb, and_parts, true≢false}
+use Rattle.std.proofs.lemmas.Option.{same_Some}
+use Rattle.std.specs.List.{slice_get}
 use Rattle.std.specs.Option.{option_map, option_or}
 use Rattle.std.specs.Str.{bytes_eq}
+use Rattle.wm_base.proofs.Plain.{none_some, nonzero}
 use Rattle.wm_graph.specs.Parts.{Parts, space_of}
 use Rattle.wm_graph.specs.Rules.{is_placed, is_short, is_space, keep_rules, live}
 use Rattle.wm_spec.specs.declared.record.piece.PieceRecord.{PieceRecord}
 use Rattle.wm_spec.specs.declared.record.space.Space.{Space}
-use Rattle.wm_spec.specs.declared.record.turn.Turn.{Turn as TurnRecord}
 use Rattle.wm_state.specs.State.{Durable, Workspace, savepoints_of, turn_of, with_space, workspace_of}
-use Rattle.wm_state.specs.Standing.{CountersStand, FieldsStand, SpaceFields, SpacesStand, TurnsStand, by_number, fields_in, fields_of, latest, turn_at, turned, turned_in}
+use Rattle.wm_state.specs.Standing.{CountersStand, FieldsStand, SpaceFields, SpacesStand, TurnsStand, by_number, fields_in, fields_of, latest}
 use Rattle.wm_state.proofs.Apart.{found-passes}
 use Rattle.wm_state.proofs.Changing.{workspace_of-changed}
 use Rattle.wm_state.proofs.Climbing.{recorded_of}
 use Rattle.wm_state.proofs.Frames.{OnceStand-changed, SavepointsStand-same, savepoints_of-found, savepoints_of-none}
-use Rattle.wm_state.proofs.Mapped.{none-found}
-use Rattle.wm_state.proofs.Named.{one_space, space_number}
-use Rattle.wm_state.proofs.Spaces.{SpaceIs, ruled_spaces, space_there}
-use Rattle.wm_state.proofs.Staying.{turns_of-found}
-use Rattle.wm_state.proofs.Tests.{bool_apart, both}
+use Rattle.wm_state.proofs.Named.{space_number}
+use Rattle.wm_state.proofs.Spaces.{ruled_spaces, space_there}
 use Rattle.wm_forked.proofs.Saving.{WasChanged, was_changed}
 use Rattle.wm_rebased.specs.Rebasing.{IsRebase, RebasedTo, rebased_on}
 use Rattle.wm_state.specs.Editing.{rebased, turn_on}
@@ -105,13 +102,13 @@ module _ (p q : Parts) (s t : Durable) (n number : ℕ) (emptied : Bool) (a b : 
   -- ---- the workspace, its parent and their records
 
   pub recorded_here : fields_of a ≡ fields_in w
-  recorded_here = let r = recorded_of p s there n w g.found in ap fields_of (one_space a r.space (sym v.old ∙ r.found)) ∙ r.fields
+  recorded_here = let r = recorded_of p s there n w g.found in ap fields_of (same_Some a r.space (sym v.old ∙ r.found)) ∙ r.fields
 
   pub same_parent : a.parent ≡ w.parent
   same_parent = ap (λ (f : SpaceFields). f.parent) recorded_here
 
   pub recorded_parent : fields_of b ≡ fields_in pw
-  recorded_parent = let r = recorded_of p s there w.parent pw g.parent in ap fields_of (one_space b r.space (sym v.parent ∙ ap (space_of p.spaces) same_parent ∙ r.found)) ∙ r.fields
+  recorded_parent = let r = recorded_of p s there w.parent pw g.parent in ap fields_of (same_Some b r.space (sym v.parent ∙ ap (space_of p.spaces) same_parent ∙ r.found)) ∙ r.fields
 
   -- ---- workspaces
 
@@ -131,15 +128,12 @@ module _ (p q : Parts) (s t : Durable) (n number : ℕ) (emptied : Bool) (a b : 
   pub before : (m : ℕ) (new : Workspace) → workspace_of t.spaces m ≡ Some new → WasRebased n emptied pw s.spaces m new
   before m new is = was_rebased n emptied pw s.spaces m new (ap (λ ws. workspace_of ws m) (sym spaces) ∙ is)
 
-  some_one : (i j : Workspace) → Some i ≡ Some j → i ≡ j
-  some_one i j e = cc
-
   -- the one that was rebased is the one
   pub old_here : (m : ℕ) (old : Workspace) → workspace_of s.spaces m ≡ Some old → m ≡ n → old ≡ w
-  old_here m old is here = some_one old w (sym is ∙ ap (workspace_of s.spaces) here ∙ g.found)
+  old_here m old is here = same_Some old w (sym is ∙ ap (workspace_of s.spaces) here ∙ g.found)
 
   pub new_here : (m : ℕ) (new : Workspace) → workspace_of t.spaces m ≡ Some new → m ≡ n → new ≡ rebased emptied pw w
-  new_here m new is here = some_one new (rebased emptied pw w) (sym is ∙ ap (workspace_of t.spaces) here ∙ found_here)
+  new_here m new is here = same_Some new (rebased emptied pw w) (sym is ∙ ap (workspace_of t.spaces) here ∙ found_here)
 
   -- ---- turns
 
@@ -164,7 +158,7 @@ module _ (p q : Parts) (s t : Durable) (n number : ℕ) (emptied : Bool) (a b : 
     where
       by_number : (m ≡ n) ⊎ (m ≢ n) → WasSpace p n (latest p a.parent) m new
       by_number (inl here) =
-          let same = one_space new (rebased_on (latest p a.parent) b.log_length a) (sym is ∙ ap (space_of q.spaces) here ∙ v.here) in
+          let same = same_Some new (rebased_on (latest p a.parent) b.log_length a) (sym is ∙ ap (space_of q.spaces) here ∙ v.here) in
           record { old = a; is = ap (space_of p.spaces) here ∙ v.old; birth = ap (λ (c : Space). c.birth_version) same; base = inl (here, ap (λ (c : Space). c.base_version) same) }
       by_number (inr away) = record { old = new; is = sym (v.elsewhere m (ne_eqb _ _ away)) ∙ is; birth = refl; base = inr (away, refl) }
 
@@ -207,9 +201,6 @@ module _ (p q : Parts) (s t : Durable) (n number : ℕ) (emptied : Bool) (a b : 
       by_old none None found = savepoints_of-none t.spaces m none ∙ sym (savepoints_of-none s.spaces m found)
       by_old none (Some old) found = absurd (by_number (cases_eq m n))
         where
-          none_some : (o : Option Workspace) (i : Workspace) → o ≡ None → o ≡ Some i → ⊥
-          none_some o i e f = cc
-
           by_number : (m ≡ n) ⊎ (m ≢ n) → ⊥
           by_number (inl here) = none_some (workspace_of t.spaces m) (rebased emptied pw w) none (ap (workspace_of t.spaces) here ∙ found_here)
           by_number (inr away) = none_some (workspace_of t.spaces m) old none (found_away m away ∙ found)
@@ -248,38 +239,15 @@ based_there p s n a b there old parent =
       is = record { found = w.is.found; parent = ap (workspace_of s.spaces) (ap (λ (f : SpaceFields). f.parent) (sym w.is.fields)) ∙ u.is.found };
     }
 
--- a workspace has no record of a turn that it did not take
-pub turn_free : (p : Parts) (s : Durable) (n : ℕ) (a : Space) → 0 < n → SpacesStand p s → TurnsStand p s → space_of p.spaces n ≡ Some a → list_any (λ (x : TurnRecord). (x.space == n) && (x.rebase == a.rebases + 1)) p.turns ≡ false
-turn_free p s n a child there turns old =
-    none-found (λ (x : TurnRecord). (x.space == n) && (x.rebase == a.rebases + 1)) p.turns
-    (nothing (turn_at p.turns n (a.rebases + 1))
-    (turns.same n (a.rebases + 1)
-    ∙ ap (λ ts. option_map turned_in (slice_get ts (a.rebases + 1))) (turns_of-found s.spaces n w.workspace w.is.found)
-    ∙ ap (option_map turned_in) (slice_get_past w.workspace.turns (a.rebases + 1)
-    (at_most (length w.workspace.turns) w.workspace.rebases a.rebases (turns.counted n w.workspace child w.is.found) (ap (λ (f : SpaceFields). f.rebases) w.is.fields)))))
-  where
-    w : SpaceIs p s n a
-    w = space_there p s n a there old
-
-    nothing : (o : Option TurnRecord) → option_map turned o ≡ None → o ≡ None
-    nothing None e = refl
-    nothing (Some x) e = cc
-
-    at_most : (l k r : ℕ) → l ≡ k + 1 → r ≡ k → l ≤ r + 1
-    at_most l k r e f = omega (arith, e, f)
-
 -- the parent of a workspace other than LIVE has a record
 pub parent_recorded : (p : Parts) → keep_rules p ≡ true → (n : ℕ) (a : Space) → 0 < n → space_of p.spaces n ≡ Some a → is_some (space_of p.spaces a.parent) ≡ true
-parent_recorded p rules n a child found = by_live (a.number == 0) (ap (λ k. k == 0) (space_number p n a found) ∙ not_live n child) placed
+parent_recorded p rules n a child found = by_live (a.number == 0) (ap (λ k. k == 0) (space_number p n a found) ∙ nonzero n child) placed
   where
-    not_live : (k : ℕ) → 0 < k → (k == 0) ≡ false
-    not_live k lt = grind (arith, lt)
-
     placed : is_placed (space_of p.spaces) a ≡ true
     placed =
         let w = found-passes (λ (x : Space). x.number == n) (is_space (space_of p.spaces)) p.spaces a found (ruled_spaces p rules).each in
-        (both (is_placed (space_of p.spaces) a) (is_short a.name && is_short a.writer) (both (is_placed (space_of p.spaces) a && (is_short a.name && is_short a.writer)) _ w.1).0).0
+        (and_parts (is_placed (space_of p.spaces) a) (is_short a.name && is_short a.writer) (and_parts (is_placed (space_of p.spaces) a && (is_short a.name && is_short a.writer)) _ w.1).0).0
 
     by_live : (b : Bool) → b ≡ false → (if b then bytes_eq a.name live else nat_lt a.parent a.number && is_some (space_of p.spaces a.parent)) ≡ true → is_some (space_of p.spaces a.parent) ≡ true
-    by_live true is_live is = absurd (bool_apart is_live)
-    by_live false is_live is = (both (nat_lt a.parent a.number) (is_some (space_of p.spaces a.parent)) is).1
+    by_live true is_live is = absurd (true≢false is_live)
+    by_live false is_live is = (and_parts (nat_lt a.parent a.number) (is_some (space_of p.spaces a.parent)) is).1

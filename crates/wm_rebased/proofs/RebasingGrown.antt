@@ -2,13 +2,13 @@
 -- without the new pieces have a version more with nothing in it (wm_forked's Sprouting); with them that version, under which none stands,
 -- has more (wm_written's Nearest).
 use Rattle.std.proofs.Common.{◌≡◌, ◌≢◌, ℕ, ◌<◌, ◌==◌, Bool, true, false, if◌then◌else◌, List, [], ◌∷◌, Option, Some, None, is_some, refl, sym, ap, ◌∙◌, arith}
-use Rattle.std.proofs.lemmas.Bool.{eq-eqb, eqb-true, ne_eqb}
+use Rattle.std.proofs.lemmas.Bool.{eq-eqb, eqb-true, ne_eqb, and_from, and_parts, true≢false}
 use Rattle.std.proofs.lemmas.List.Folds.{list_all-append}
 use Rattle.std.specs.List.{list_all}
 use Rattle.std.specs.Option.{option_map, option_or}
+use Rattle.wm_base.proofs.Plain.{less_apart, option_or-none}
 use Rattle.wm_graph.specs.Parts.{Parts}
 use Rattle.wm_graph.specs.Rules.{keep_rules}
-use Rattle.wm_period.specs.Pieces.{Held}
 use Rattle.wm_spec.specs.Lists.{Cell, Entry, Told, told}
 use Rattle.wm_spec.specs.declared.record.piece.PieceRecord.{PieceRecord}
 use Rattle.wm_tree.specs.declared.version.Version.{Version as Node}
@@ -18,7 +18,7 @@ use Rattle.wm_state.proofs.Above.{above-leaf, ends-beside, ends-itself, ends-und
 use Rattle.wm_state.proofs.Ending.{all_end}
 use Rattle.wm_state.proofs.Forking.{own-beside, own-none, own-under, seen-beside, seen-under}
 use Rattle.wm_state.proofs.Laying.{stored-append}
-use Rattle.wm_state.proofs.Tests.{all_if, and_true, bool_apart, both}
+use Rattle.wm_state.proofs.Tests.{all_if}
 use Rattle.wm_forked.proofs.Sprouting.{Sprouted, newest-away, newest-here}
 use Rattle.wm_written.proofs.Nearest.{SameAway, own-away, own-here, seen-away, seen-here}
 use Rattle.wm_rebased.specs.Rebasing.{Grafted}
@@ -27,16 +27,12 @@ use Rattle.wm_rebased.specs.Rebasing.{Grafted}
 abbrev bare : Parts → Parts → Parts
 bare p q = record q { pieces = p.pieces }
 
-or-none : (o : Option Held) → option_or o None ≡ o
-or-none None = refl
-or-none (Some h) = refl
-
 -- pieces of one version store nothing in another
 stored-other : (number : ℕ) (xs : List PieceRecord) (v : ℕ) (c : Cell) → list_all (λ (y : PieceRecord). y.version == number) xs ≡ true → (v == number) ≡ false → stored_at xs v c ≡ None
 stored-other number [] v c its other = refl
 stored-other number (x ∷ xs) v c its other =
-    let h = both (x.version == number) (list_all (λ (y : PieceRecord). y.version == number) xs) its in
-    rw (ne_eqb x.version v (λ same. bool_apart (sym (eq-eqb v number (sym same ∙ eqb-true x.version number h.0)) ∙ other))) (stored-other number xs v c h.1 other)
+    let h = and_parts (x.version == number) (list_all (λ (y : PieceRecord). y.version == number) xs) its in
+    rw (ne_eqb x.version v (λ same. true≢false (sym (eq-eqb v number (sym same ∙ eqb-true x.version number h.0)) ∙ other))) (stored-other number xs v c h.1 other)
 
 module _ (p q : Parts) (x : Node) (news : List PieceRecord) (g : Grafted p q x news) where
   abbrev older : List Node
@@ -47,7 +43,7 @@ module _ (p q : Parts) (x : Node) (news : List PieceRecord) (g : Grafted p q x n
 
   -- every version but the new one has what it had
   away : (c : Cell) → SameAway x.number p.pieces q.pieces c
-  away c v other = ap (λ ps. stored_at ps v c) g.pieces ∙ stored-append p.pieces news v c ∙ ap (option_or (stored_at p.pieces v c)) (stored-other x.number news v c g.its other) ∙ or-none (stored_at p.pieces v c)
+  away c v other = ap (λ ps. stored_at ps v c) g.pieces ∙ stored-append p.pieces news v c ∙ ap (option_or (stored_at p.pieces v c)) (stored-other x.number news v c g.its other) ∙ option_or-none (stored_at p.pieces v c)
 
   -- and that one has the new pieces
   gained : (c : Cell) → stored_at q.pieces x.number c ≡ option_or (stored_at news x.number c) (stored_at p.pieces x.number c)
@@ -55,16 +51,13 @@ module _ (p q : Parts) (x : Node) (news : List PieceRecord) (g : Grafted p q x n
       ap (λ ps. stored_at ps x.number c) g.pieces
       ∙ stored-append p.pieces news x.number c
       ∙ ap (λ o. option_or o (stored_at news x.number c)) (g.empty c)
-      ∙ sym (ap (option_or (stored_at news x.number c)) (g.empty c) ∙ or-none (stored_at news x.number c))
-
-  apart : (m n : ℕ) → m < n → (m == n) ≡ false
-  apart m n lt = grind (arith, lt)
+      ∙ sym (ap (option_or (stored_at news x.number c)) (g.empty c) ∙ option_or-none (stored_at news x.number c))
 
   above : (x.number == x.parent) ≡ false
   above = ne_eqb x.number x.parent (λ same. omega (arith, g.under, same))
 
   leaf : IsLeaf x.number (x ∷ older)
-  leaf = (apart x.parent x.number g.under, g.leaf)
+  leaf = (less_apart x.parent x.number g.under, g.leaf)
 
   there : is_there x.number (x ∷ older) ≡ true
   there = rw (eq-eqb x.number x.number refl) refl
@@ -75,7 +68,7 @@ module _ (p q : Parts) (x : Node) (news : List PieceRecord) (g : Grafted p q x n
   pub seen-old : (v : ℕ) (c : Cell) → v < x.number → seen q v c ≡ seen p v c
   seen-old v c lt =
       ap (λ nodes. seen_at q.pieces nodes v c) g.versions
-      ∙ seen-away x.number p.pieces q.pieces c (away c) (x ∷ older) leaf v (apart v x.number lt)
+      ∙ seen-away x.number p.pieces q.pieces c (away c) (x ∷ older) leaf v (less_apart v x.number lt)
       ∙ seen-beside p.pieces x older v c lt
 
   -- the new version sees its own pieces over what its parent saw
@@ -90,7 +83,7 @@ module _ (p q : Parts) (x : Node) (news : List PieceRecord) (g : Grafted p q x n
   above-old : (base v : ℕ) (c : Cell) → v < x.number → seen_above q base v c ≡ seen_above p base v c
   above-old base v c lt =
       ap (λ nodes. own_at q.pieces nodes base v c) g.versions
-      ∙ own-away x.number p.pieces q.pieces c (away c) base (x ∷ older) leaf v (apart v x.number lt)
+      ∙ own-away x.number p.pieces q.pieces c (away c) base (x ∷ older) leaf v (less_apart v x.number lt)
       ∙ own-beside p.pieces x older base v c lt
 
   above-graft : (c : Cell) → seen_above q x.parent x.number c ≡ stored_at news x.number c
@@ -98,7 +91,7 @@ module _ (p q : Parts) (x : Node) (news : List PieceRecord) (g : Grafted p q x n
       ap (λ nodes. own_at q.pieces nodes x.parent x.number c) g.versions
       ∙ own-here x.number p.pieces q.pieces c (stored_at news x.number c) (away c) (gained c) x.parent above (x ∷ older) leaf there
       ∙ ap (option_or (stored_at news x.number c)) (own-under p.pieces x older x.parent c above (g.empty c) ∙ own-none p.pieces older x.parent c)
-      ∙ or-none (stored_at news x.number c)
+      ∙ option_or-none (stored_at news x.number c)
 
   -- ---- where pieces end
 
@@ -108,7 +101,7 @@ module _ (p q : Parts) (x : Node) (news : List PieceRecord) (g : Grafted p q x n
       ap (λ nodes. all_end (is_above nodes base v) es q.pieces) g.versions
       ∙ ap (all_end (is_above (x ∷ older) base v) es) g.pieces
       ∙ list_all-append (λ (y : PieceRecord). if is_above (x ∷ older) base v y.version then has_ends es y.cells else true) p.pieces news
-      ∙ and_true (all_end (is_above (x ∷ older) base v) es p.pieces) (all_end (is_above (x ∷ older) base v) es news) olds new
+      ∙ and_from (all_end (is_above (x ∷ older) base v) es p.pieces) (all_end (is_above (x ∷ older) base v) es news) olds new
 
   -- on the path of what was there before is none of the new pieces
   ends-old : keep_rules p ≡ true → (base v : ℕ) → v < x.number → (es : List Entry) → have_ends p base v es ≡ true → have_ends q base v es ≡ true
@@ -116,7 +109,7 @@ module _ (p q : Parts) (x : Node) (news : List PieceRecord) (g : Grafted p q x n
       (ends-beside x older base v es p.pieces lt (pieces_lower p rules x.number g.below) e)
       (all_if (λ (y : PieceRecord). y.version == x.number) (λ (y : PieceRecord). if is_above (x ∷ older) base v y.version then has_ends es y.cells else true)
       (λ y is. ap (λ b. if b then has_ends es y.cells else true)
-      (ap (is_above (x ∷ older) base v) (eqb-true y.version x.number is) ∙ above-leaf x.number base (x ∷ older) leaf v (apart v x.number lt))) news g.its)
+      (ap (is_above (x ∷ older) base v) (eqb-true y.version x.number is) ∙ above-leaf x.number base (x ∷ older) leaf v (less_apart v x.number lt))) news g.its)
 
   -- and above the parent of the new version stand no others
   ends-graft : keep_rules p ≡ true → (es : List Entry) → list_all (λ (y : PieceRecord). has_ends es y.cells) news ≡ true → have_ends q x.parent x.number es ≡ true

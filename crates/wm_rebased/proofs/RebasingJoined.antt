@@ -1,6 +1,7 @@
 -- Joined pieces end only where what they hold changes: the law joined_change.
-use Rattle.std.proofs.Common.{◌≡◌, ◌≢◌, ℕ, zero, suc, ◌<◌, ◌≤◌, nat_le, nat_lt, true, false, ◌&&◌, List, [], ◌∷◌, Option, Some, None, refl, sym, ap, subst, ◌∙◌, ◌⊎◌, inl, inr, arith}
+use Rattle.std.proofs.Common.{◌≡◌, ◌≢◌, ℕ, zero, suc, ◌<◌, ◌≤◌, nat_le, nat_lt, true, false, ◌&&◌, List, [], ◌∷◌, Option, Some, None, refl, sym, ap, subst, ◌∙◌, ◌⊎◌, inl, inr, arith, le_refl}
 use Rattle.std.proofs.lemmas.Bool.{cases_eq}
+use Rattle.std.proofs.lemmas.Option.{same_Some, none-some}
 use Rattle.wm_period.specs.Pieces.{Between, Held, IsApart, IsJoined, held, held_at}
 use Rattle.wm_period.specs.declared.piece.Piece.{Piece}
 use Rattle.wm_rebased.specs.Rebasing.{Changes}
@@ -11,9 +12,6 @@ AllChange f [] = Unit {0}
 AllChange f (p ∷ ps) = Changes f p.period.from × Changes f p.period.till × AllChange f ps
 
 -- ---- numbers
-
-itself : (n : ℕ) → n ≤ n
-itself n = omega arith
 
 no_first : (from till : ℕ) → from < till → till ≢ 0
 no_first from till lt same = omega (arith, lt, same)
@@ -50,12 +48,6 @@ apart_held : (p : Piece) (qs : List Piece) (high : ℕ) → Between p.period.til
 apart_held p [] high b apart same = cc
 apart_held p (q ∷ qs) high b apart same = by_end (cases_eq p.period.till q.period.from)
   where
-    some_same : (h k : Held) → Some h ≡ Some k → h ≡ k
-    some_same h k e = cc
-
-    none_some : (h : Held) → Some h ≡ None → ⊥
-    none_some h e = cc
-
     above : (i k : ℕ) → i ≤ k → i ≢ k → i < k
     above i k le other = grind (arith, le, other)
 
@@ -63,9 +55,9 @@ apart_held p (q ∷ qs) high b apart same = by_end (cases_eq p.period.till q.per
     first = rw (covers_first q.period.from q.period.till b.1) refl
 
     by_end : (p.period.till ≡ q.period.from) ⊎ (p.period.till ≢ q.period.from) → ⊥
-    by_end (inl meets) = apart meets (some_same (held p) (held q) (same ∙ ap (held_at (q ∷ qs)) meets ∙ first))
+    by_end (inl meets) = apart meets (same_Some (held p) (held q) (same ∙ ap (held_at (q ∷ qs)) meets ∙ first))
     by_end (inr other) =
-        none_some (held p) (same ∙ none_before (q ∷ qs) q.period.from high p.period.till (itself q.period.from, b.1, b.2) (above p.period.till q.period.from b.0 other))
+        none-some (held p) (sym (same ∙ none_before (q ∷ qs) q.period.from high p.period.till (le_refl q.period.from, b.1, b.2) (above p.period.till q.period.from b.0 other)))
 
 -- ---- the law
 
@@ -82,12 +74,6 @@ joined_from f (p ∷ ps) low high b joined same first = (
   joined_from f ps p.period.till high b.2 joined.1 (λ t le. same t (longer low p.period.from p.period.till t b.0 b.1 le) ∙ rest t le) (next ps),
 )
   where
-    none_some : (h : Held) → (let nothing : Option Held = None in nothing) ≡ Some h → ⊥
-    none_some h e = cc
-
-    some_none : (h : Held) → Some h ≡ None → ⊥
-    some_none h e = cc
-
     longer : (i from till t : ℕ) → i ≤ from → from < till → till ≤ t → i ≤ t
     longer i from till t le lt more = omega (arith, le, lt, more)
 
@@ -110,12 +96,12 @@ joined_from f (p ∷ ps) low high b joined same first = (
 
     begins : (p.period.from ≡ low) ⊎ (p.period.from ≢ low) → Changes f p.period.from
     begins (inl at) = subst (λ (n : ℕ). Changes f n) (sym at) (first at)
-    begins (inr other) = change_of f p.period.from (Some (held p)) here (λ zero_is. some_none (held p))
+    begins (inr other) = change_of f p.period.from (Some (held p)) here (λ zero_is e. none-some (held p) (sym e))
         (λ t is e. let g = before low p.period.from t b.0 other is in
-        none_some (held p) (sym (none_before (p ∷ ps) p.period.from high t (itself p.period.from, b.1, b.2) g.1) ∙ sym (same t g.0) ∙ e))
+        none-some (held p) (sym (none_before (p ∷ ps) p.period.from high t (le_refl p.period.from, b.1, b.2) g.1) ∙ sym (same t g.0) ∙ e))
 
     ends : Changes f p.period.till
-    ends = change_of f p.period.till (held_at ps p.period.till) (same p.period.till (longer low p.period.from p.period.till p.period.till b.0 b.1 (itself p.period.till)) ∙ rest p.period.till (itself p.period.till))
+    ends = change_of f p.period.till (held_at ps p.period.till) (same p.period.till (longer low p.period.from p.period.till p.period.till b.0 b.1 (le_refl p.period.till)) ∙ rest p.period.till (le_refl p.period.till))
         (λ zero_is. absurd (no_first p.period.from p.period.till b.1 zero_is))
         (λ t is e. apart_held p ps high b.2 joined.0 (sym (last t is) ∙ e))
 
@@ -126,12 +112,6 @@ joined_from f (p ∷ ps) low high b joined same first = (
 pub joined_change : (ps : List Piece) (low high : ℕ) → Between low ps high → IsJoined ps → AllChange (held_at ps) ps
 joined_change ps low high b joined = joined_from (held_at ps) ps low high b joined (λ t le. refl) (first ps b)
   where
-    some_none : (h : Held) → Some h ≡ None → ⊥
-    some_none h e = cc
-
-    none_some : (h : Held) → (let nothing : Option Held = None in nothing) ≡ Some h → ⊥
-    none_some h e = cc
-
     less : (i from t : ℕ) → from ≡ i → i ≡ suc t → t < from
     less i from t at is = omega (arith, at, is)
 
@@ -140,5 +120,5 @@ joined_change ps low high b joined = joined_from (held_at ps) ps low high b join
     first (q ∷ qs) bs = λ at. subst (λ (n : ℕ). Changes (held_at (q ∷ qs)) n) at (begins at)
       where
         begins : q.period.from ≡ low → Changes (held_at (q ∷ qs)) q.period.from
-        begins at = change_of (held_at (q ∷ qs)) q.period.from (Some (held q)) (rw (covers_first q.period.from q.period.till bs.1) refl) (λ zero_is. some_none (held q))
-            (λ t is e. none_some (held q) (sym (none_before (q ∷ qs) low high t bs (less q.period.from low t (sym at) is)) ∙ e))
+        begins at = change_of (held_at (q ∷ qs)) q.period.from (Some (held q)) (rw (covers_first q.period.from q.period.till bs.1) refl) (λ zero_is e. none-some (held q) (sym e))
+            (λ t is e. none-some (held q) (sym (none_before (q ∷ qs) low high t bs (less q.period.from low t (sym at) is)) ∙ e))

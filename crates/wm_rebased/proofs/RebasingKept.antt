@@ -1,10 +1,11 @@
 -- The records with a workspace on its parent as that is now keep every rule, and stand for the state in which it was rebased.
-use Rattle.std.proofs.Common.{◌≡◌, ◌≢◌, ℕ, ◌+◌, ◌<◌, ◌≤◌, ◌==◌, nat_le, nat_lt, Bool, true, false, not, ◌&&◌, ◌||◌, if◌then◌else◌, List, [], ◌∷◌, ◌++◌, length, length-append, Some, None, is_some, refl, sym, ap, subst, ◌∙◌, arith}
-use Rattle.std.proofs.lemmas.Bool.{eq-eqb, eqb-true}
+use Rattle.std.proofs.Common.{◌≡◌, ◌≢◌, ℕ, ◌+◌, ◌<◌, ◌≤◌, ◌==◌, nat_le, nat_lt, Bool, true, false, not, ◌&&◌, if◌then◌else◌, List, [], ◌∷◌, ◌++◌, length, length-append, Some, None, is_some, refl, sym, ap, subst, ◌∙◌}
+use Rattle.std.proofs.lemmas.Bool.{eq-eqb, eqb-true, and_from, and_parts, le-leb, ltb-true, or_right, true≢false}
 use Rattle.std.proofs.lemmas.List.Folds.{list_all-append}
 use Rattle.std.specs.List.{All, filter, list_all, list_any}
 use Rattle.std.specs.Option.{option_map_or}
 use Rattle.std.specs.Str.{bytes_eq}
+use Rattle.wm_base.proofs.Plain.{nat_le-itself, nat_lt-apart, nat_lt-next, nonzero}
 use Rattle.wm_graph.specs.Parts.{Parts, has_version, row_of, space_of, table_of, version_of}
 use Rattle.wm_graph.specs.Rules.{are_counters, are_hists, are_locks, are_pieces, are_rows, are_savepoints, are_spaces, are_versions, collide, differ, has_few, has_versions, is_piece, is_space, is_version, is_version_of, keep_rules, stands_under}
 use Rattle.wm_spec.specs.Lists.{Cell}
@@ -16,23 +17,22 @@ use Rattle.wm_state.specs.State.{Durable, Workspace, with_space}
 use Rattle.wm_state.specs.Standing.{CountersStand, FieldsStand, Stands, latest, newest_first, node_of, owned, stored_at}
 use Rattle.wm_state.specs.Effects.{Forked, IsLeaf}
 use Rattle.wm_state.proofs.Apart.{Ruled, keeps_all, newest_record, ruled, ruled_versions}
-use Rattle.wm_state.proofs.Growing.{MayFork, below-next, forked, forked_of, found-below, same_counters}
-use Rattle.wm_state.proofs.Keeping.{KeepRows-same, KeepSpaces, KeepSpaces-swap, KeepTables-same, KeepVersions, KeepVersions-push, are_hists-kept, are_savepoints-kept, is_piece-kept, is_version_of-kept, le_itself, le_next, le_of}
+use Rattle.wm_state.proofs.Growing.{MayFork, below-next, forked, forked_of, found-below, same_counters, newest-push, has_push}
+use Rattle.wm_state.proofs.Keeping.{KeepRows-same, KeepSpaces, KeepSpaces-swap, KeepTables-same, KeepVersions, KeepVersions-push, are_hists-kept, are_savepoints-kept, is_piece-kept, is_version_of-kept, le_next}
 use Rattle.wm_state.proofs.KeepingTurns.{are_locks-kept, are_marks-kept, are_touches-kept, are_turns-kept, turned-swap}
 use Rattle.wm_state.proofs.Named.{ruled_savepoints, version_there}
 use Rattle.wm_state.proofs.Respaced.{space_elsewhere, space_here, versions_replaced}
-use Rattle.wm_state.proofs.Tests.{all_if, all_middle, all_push, all_swap, and_true, bool_apart, both, differ_push, differ_swap, none_if, some_swap}
+use Rattle.wm_state.proofs.Tests.{all_if, all_middle, all_push, all_swap, differ_push, differ_swap, none_if, some_swap}
 use Rattle.wm_forked.proofs.KeepBorn.{version_numbered}
-use Rattle.wm_forked.proofs.KeptSpaces.{has_push, has_versions-kept, is_version-kept}
-use Rattle.wm_forked.proofs.Sprouting.{newest-behind}
+use Rattle.wm_forked.proofs.KeptSpaces.{has_versions-kept, is_version-kept}
 use Rattle.wm_written.proofs.Leaves.{leaf_new}
 use Rattle.wm_rebased.specs.Rebasing.{Ends, Grafted, IsRebase, RebasedTo, is_copied, is_elsewhere, rebased_on, turn_record}
-use Rattle.wm_rebased.proofs.Copying.{differ_both}
 use Rattle.wm_rebased.proofs.RebasingFields.{FieldsStand-rebased}
 use Rattle.wm_rebased.proofs.RebasingRules.{hists_counted, locks_counted, marks_counted, saves_counted, touches_counted, turns_rebased}
 use Rattle.wm_rebased.proofs.RebasingStands.{Stands-rebased}
 use Rattle.wm_state.specs.Editing.{rebased}
 use Rattle.wm_state.specs.Drafts.{is_turn}
+use Rattle.wm_state.proofs.Appending.{differ_append}
 
 -- the records with a workspace's record on a version of its parent, that version's child with these pieces, a turn more, none of its marks
 -- and other counters
@@ -81,17 +81,17 @@ spaces_based front back a version from rebases e =
     let b : Space = record a { base_version = version; from = from; rebases = rebases } in
     let old = front ++ a ∷ back in
     let new = front ++ b ∷ back in
-    let first = both (nat_le (length old) 1024 && is_some (space_of old 0)) _ e in
-    let sized = both (nat_le (length old) 1024) (is_some (space_of old 0)) first.0 in
-    let numbers = both (differ (λ (s t : Space). s.number == t.number) old) _ first.1 in
-    let names = both (differ (λ (s t : Space). bytes_eq s.name t.name) old) (list_all (is_space (space_of old)) old) numbers.1 in
-    and_true (nat_le (length new) 1024 && is_some (space_of new 0)) _
-    (and_true (nat_le (length new) 1024) (is_some (space_of new 0))
+    let first = and_parts (nat_le (length old) 1024 && is_some (space_of old 0)) _ e in
+    let sized = and_parts (nat_le (length old) 1024) (is_some (space_of old 0)) first.0 in
+    let numbers = and_parts (differ (λ (s t : Space). s.number == t.number) old) _ first.1 in
+    let names = and_parts (differ (λ (s t : Space). bytes_eq s.name t.name) old) (list_all (is_space (space_of old)) old) numbers.1 in
+    and_from (nat_le (length new) 1024 && is_some (space_of new 0)) _
+    (and_from (nat_le (length new) 1024) (is_some (space_of new 0))
     (ap (λ n. nat_le n 1024) (length-append front (b ∷ back) ∙ sym (length-append front (a ∷ back))) ∙ sized.0)
     (some_swap (λ (s : Space). s.number == 0) a b refl front back ∙ sized.1))
-    (and_true (differ (λ (s t : Space). s.number == t.number) new) _
+    (and_from (differ (λ (s t : Space). s.number == t.number) new) _
     (differ_swap (λ (s t : Space). s.number == t.number) a b (λ s. refl) (λ s. refl) front back ∙ numbers.0)
-    (and_true (differ (λ (s t : Space). bytes_eq s.name t.name) new) (list_all (is_space (space_of new)) new)
+    (and_from (differ (λ (s t : Space). bytes_eq s.name t.name) new) (list_all (is_space (space_of new)) new)
     (differ_swap (λ (s t : Space). bytes_eq s.name t.name) a b (λ s. refl) (λ s. refl) front back ∙ names.0)
     (all_swap (is_space (space_of old)) (is_space (space_of new)) a b front back still (still a (all_middle (is_space (space_of old)) a front back names.1)) names.1)))
   where
@@ -127,7 +127,7 @@ module _ (p : Parts) (old new : Counters) (front : List Space) (a : Space) (back
   spaces_now = spaces_based front back a y.parent b.log_length (a.rebases + 1) before
 
   keep_spaces : KeepSpaces p mid
-  keep_spaces = KeepSpaces-swap p mid front back a on refl refl (le_itself a.log_length) (le_itself a.next_place) refl may.spaces refl
+  keep_spaces = KeepSpaces-swap p mid front back a on refl refl (nat_le-itself a.log_length) (nat_le-itself a.next_place) refl may.spaces refl
 
   keep_versions : KeepVersions p mid
   keep_versions = KeepVersions-push p mid y refl
@@ -151,48 +151,38 @@ module _ (p : Parts) (old new : Counters) (front : List Space) (a : Space) (back
       ∙ found-below p.versions old.next_version (latest p a.parent) (below-next p old.next_version old_versions) (version_there (version_of p.versions) (latest p a.parent) a.parent parent_version)
 
   child : (a.number == 0) ≡ false
-  child = not_zero a.number may.child
-    where
-      not_zero : (m : ℕ) → 0 < m → (m == 0) ≡ false
-      not_zero m lt = grind (arith, lt)
+  child = nonzero a.number may.child
 
   -- the new version itself
   new_version : is_version (space_of mid.spaces) (version_of mid.versions) (old.next_version + 1) y ≡ true
   new_version =
-      and_true (nat_lt y.number (old.next_version + 1)) _ (ap (λ k. nat_lt k (old.next_version + 1)) may.number ∙ lt_next old.next_version)
+      and_from (nat_lt y.number (old.next_version + 1)) _ (ap (λ k. nat_lt k (old.next_version + 1)) may.number ∙ nat_lt-next old.next_version)
       (ap (λ o. option_map_or stands o false) (ap (space_of mid.spaces) may.its ∙ space_here front back on a.number spaces_mid refl)
       ∙ ap (λ d. if d then y.number == 1 else stands_under (version_of mid.versions) y on) (ap (λ k. k == 0) may.under ∙ version_numbered p old.next_version (latest p a.parent) a.parent old_versions parent_version)
-      ∙ and_true (nat_lt y.parent y.number) _ under (or_second (is_version_of (version_of mid.versions) y.parent y.space) (is_version_of (version_of mid.versions) y.parent a.parent) parent_still))
+      ∙ and_from (nat_lt y.parent y.number) _ under (or_right (is_version_of (version_of mid.versions) y.parent y.space) (is_version_of (version_of mid.versions) y.parent a.parent) parent_still))
     where
       stands : Space → Bool
       stands s = if y.parent == 0 then y.number == 1 else stands_under (version_of mid.versions) y s
 
-      lt_next : (n : ℕ) → nat_lt n (n + 1) ≡ true
-      lt_next n = grind arith
-
-      or_second : (c d : Bool) → d ≡ true → (c || d) ≡ true
-      or_second true d e = refl
-      or_second false d e = e
-
   -- what the workspace sees under its own is a version of its parent
   has_now : has_versions (has_version p.versions) (version_of p.versions) a ≡ true → has_versions (has_version mid.versions) (version_of mid.versions) on ≡ true
   has_now e =
-      let h = both (has_version mid.versions a.number) _ (has_versions-kept p mid keep_versions a (has_push p.versions y a.number) e) in
-      let g = both (is_version_of (version_of mid.versions) a.birth_version a.parent) (is_version_of (version_of mid.versions) a.base_version a.parent)
+      let h = and_parts (has_version mid.versions a.number) _ (has_versions-kept p mid keep_versions a (has_push p.versions y a.number) e) in
+      let g = and_parts (is_version_of (version_of mid.versions) a.birth_version a.parent) (is_version_of (version_of mid.versions) a.base_version a.parent)
       (sym (ap (λ d. if d then (a.birth_version == 1) && (a.base_version == 0) else is_version_of (version_of mid.versions) a.birth_version a.parent && is_version_of (version_of mid.versions) a.base_version a.parent) child) ∙ h.1) in
-      and_true (has_version mid.versions a.number) _ h.0
+      and_from (has_version mid.versions a.number) _ h.0
       (ap (λ d. if d then (a.birth_version == 1) && (y.parent == 0) else is_version_of (version_of mid.versions) a.birth_version a.parent && is_version_of (version_of mid.versions) y.parent a.parent) child
-      ∙ and_true (is_version_of (version_of mid.versions) a.birth_version a.parent) (is_version_of (version_of mid.versions) y.parent a.parent) g.0 parent_still)
+      ∙ and_from (is_version_of (version_of mid.versions) a.birth_version a.parent) (is_version_of (version_of mid.versions) y.parent a.parent) g.0 parent_still)
 
   versions_mid : are_versions mid (old.next_version + 1) ≡ true
   versions_mid =
       let h = ruled_versions p old.next_version old_versions in
       let there : list_all (has_versions (has_version p.versions) (version_of p.versions)) (front ++ a ∷ back) ≡ true = ap (list_all (has_versions (has_version p.versions) (version_of p.versions))) (sym may.spaces) ∙ h.spaces in
-      and_true (differ (λ (v w : Version). v.number == w.number) mid.versions) _
+      and_from (differ (λ (v w : Version). v.number == w.number) mid.versions) _
       (differ_push (λ (v w : Version). v.number == w.number) p.versions y h.numbers
-      (none_if (λ (w : Version). nat_lt w.number old.next_version) (λ (w : Version). w.number == y.number) (λ w lt. ap (λ k. w.number == k) may.number ∙ lt_apart w.number old.next_version lt) p.versions
+      (none_if (λ (w : Version). nat_lt w.number old.next_version) (λ (w : Version). w.number == y.number) (λ w lt. ap (λ k. w.number == k) may.number ∙ nat_lt-apart w.number old.next_version lt) p.versions
       (below-next p old.next_version old_versions)))
-      (and_true (list_all (is_version (space_of mid.spaces) (version_of mid.versions) (old.next_version + 1)) mid.versions) (list_all (has_versions (has_version mid.versions) (version_of mid.versions)) mid.spaces)
+      (and_from (list_all (is_version (space_of mid.spaces) (version_of mid.versions) (old.next_version + 1)) mid.versions) (list_all (has_versions (has_version mid.versions) (version_of mid.versions)) mid.spaces)
       (all_push (is_version (space_of mid.spaces) (version_of mid.versions) (old.next_version + 1)) p.versions y
       (all_if (is_version (space_of p.spaces) (version_of p.versions) old.next_version) (is_version (space_of mid.spaces) (version_of mid.versions) (old.next_version + 1))
       (is_version-kept p mid old.next_version (old.next_version + 1) (le_next old.next_version) keep_spaces keep_versions) p.versions h.each)
@@ -200,44 +190,38 @@ module _ (p : Parts) (old new : Counters) (front : List Space) (a : Space) (back
       (all_swap (has_versions (has_version p.versions) (version_of p.versions)) (has_versions (has_version mid.versions) (version_of mid.versions)) a on front back
       (λ s. has_versions-kept p mid keep_versions s (has_push p.versions y s.number))
       (has_now (all_middle (has_versions (has_version p.versions) (version_of p.versions)) a front back there)) there))
-    where
-      lt_apart : (m n : ℕ) → nat_lt m n ≡ true → (m == n) ≡ false
-      lt_apart m n lt = grind (arith, lt)
 
   -- ---- the rule on pieces
 
   its_pieces : list_all (λ (x : PieceRecord). x.version == y.number) news ≡ true
-  its_pieces = all_if (is_copied p y.number old.next_stamp) (λ (x : PieceRecord). x.version == y.number) (λ x is. (both (x.version == y.number) _ is).0) news may.copied
+  its_pieces = all_if (is_copied p y.number old.next_stamp) (λ (x : PieceRecord). x.version == y.number) (λ x is. (and_parts (x.version == y.number) _ is).0) news may.copied
 
   pieces_now : are_pieces p old.next_stamp ≡ true → are_pieces q old.next_stamp ≡ true
   pieces_now e =
-      let h = both (differ collide p.pieces) (list_all (is_piece (table_of p.tables) (version_of p.versions) (row_of p.rows) old.next_stamp) p.pieces) e in
-      and_true (differ collide q.pieces) (list_all (is_piece (table_of p.tables) (version_of q.versions) (row_of p.rows) old.next_stamp) q.pieces)
-      (differ_both collide p.pieces news h.0 may.apart
+      let h = and_parts (differ collide p.pieces) (list_all (is_piece (table_of p.tables) (version_of p.versions) (row_of p.rows) old.next_stamp) p.pieces) e in
+      and_from (differ collide q.pieces) (list_all (is_piece (table_of p.tables) (version_of q.versions) (row_of p.rows) old.next_stamp) q.pieces)
+      (differ_append collide p.pieces news h.0 may.apart
       (all_if (is_piece (table_of p.tables) (version_of p.versions) (row_of p.rows) old.next_stamp) (λ (x : PieceRecord). not (list_any (collide x) news)) (λ x is. ap not (apart x is)) p.pieces h.1))
       (list_all-append (is_piece (table_of p.tables) (version_of q.versions) (row_of p.rows) old.next_stamp) p.pieces news
-      ∙ and_true (list_all (is_piece (table_of p.tables) (version_of q.versions) (row_of p.rows) old.next_stamp) p.pieces) (list_all (is_piece (table_of p.tables) (version_of q.versions) (row_of p.rows) old.next_stamp) news)
+      ∙ and_from (list_all (is_piece (table_of p.tables) (version_of q.versions) (row_of p.rows) old.next_stamp) p.pieces) (list_all (is_piece (table_of p.tables) (version_of q.versions) (row_of p.rows) old.next_stamp) news)
       (all_if (is_piece (table_of p.tables) (version_of p.versions) (row_of p.rows) old.next_stamp) (is_piece (table_of p.tables) (version_of q.versions) (row_of p.rows) old.next_stamp)
-      (is_piece-kept p q old.next_stamp old.next_stamp (le_itself old.next_stamp) (KeepTables-same p q refl) (KeepVersions-push p q y refl) (KeepRows-same p q refl)) p.pieces h.1)
+      (is_piece-kept p q old.next_stamp old.next_stamp (nat_le-itself old.next_stamp) (KeepTables-same p q refl) (KeepVersions-push p q y refl) (KeepRows-same p q refl)) p.pieces h.1)
       (all_if (is_copied p y.number old.next_stamp) (is_piece (table_of p.tables) (version_of q.versions) (row_of p.rows) old.next_stamp) copied news may.copied))
     where
       -- an old piece is of an older version
       apart : (x : PieceRecord) → is_piece (table_of p.tables) (version_of p.versions) (row_of p.rows) old.next_stamp x ≡ true → list_any (collide x) news ≡ false
       apart x is = none_if (λ (z : PieceRecord). z.version == y.number) (collide x)
           (λ z at. other x z (ap (λ k. x.version == k) (eqb-true z.version y.number at ∙ may.number)
-          ∙ below x.version old.next_version (found-below p.versions old.next_version x.version (below-next p old.next_version old_versions) (both (is_some (version_of p.versions x.version)) _ is).0)))
+          ∙ nat_lt-apart x.version old.next_version (found-below p.versions old.next_version x.version (below-next p old.next_version old_versions) (and_parts (is_some (version_of p.versions x.version)) _ is).0)))
           news its_pieces
         where
-          below : (m n : ℕ) → nat_lt m n ≡ true → (m == n) ≡ false
-          below m n lt = grind (arith, lt)
-
           other : (s t : PieceRecord) → (s.version == t.version) ≡ false → collide s t ≡ false
           other s t e = rw e refl
 
       copied : (x : PieceRecord) → is_copied p y.number old.next_stamp x ≡ true → is_piece (table_of p.tables) (version_of q.versions) (row_of p.rows) old.next_stamp x ≡ true
       copied x is =
-          let h = both (x.version == y.number) _ is in
-          and_true (is_some (version_of q.versions x.version)) _
+          let h = and_parts (x.version == y.number) _ is in
+          and_from (is_some (version_of q.versions x.version)) _
           (ap (λ k. is_some (version_of q.versions k)) (eqb-true x.version y.number h.0) ∙ there)
           h.1
         where
@@ -256,7 +240,7 @@ module _ (p : Parts) (old new : Counters) (front : List Space) (a : Space) (back
 
   pub keep-rebased : keep_rules q ≡ true
   keep-rebased =
-      let more = le_of old.work new.work may.work in
+      let more = le-leb old.work new.work may.work in
       let saves : are_savepoints p old.work ≡ true = ap (λ (c : Counters). are_savepoints p c.work) (sym same) ∙ r.savepoints in
       keeps_all q new refl may.counters r.tables spaces_now
       (ap (are_versions q) may.next ∙ versions_replaced mid q front back on (rebased_on y.parent b.log_length a) (old.next_version + 1) (record { number = refl; name = refl; parent = refl; birth = refl; base = refl }) refl refl refl versions_mid)
@@ -266,7 +250,7 @@ module _ (p : Parts) (old new : Counters) (front : List Space) (a : Space) (back
       (ap (are_pieces q) may.stamps ∙ pieces_now (ap (λ (c : Counters). are_pieces p c.next_stamp) (sym same) ∙ r.pieces))
       (ap (are_hists q) may.stamps
       ∙ hists_counted mid front back on (a.rebases + 1) q.pieces q.turns refl old.next_stamp
-      (are_hists-kept p mid old.next_stamp old.next_stamp (le_itself old.next_stamp) (KeepTables-same p mid refl) keep_spaces (KeepRows-same p mid refl) refl (ap (λ (c : Counters). are_hists p c.next_stamp) (sym same) ∙ r.hists)))
+      (are_hists-kept p mid old.next_stamp old.next_stamp (nat_le-itself old.next_stamp) (KeepTables-same p mid refl) keep_spaces (KeepRows-same p mid refl) refl (ap (λ (c : Counters). are_hists p c.next_stamp) (sym same) ∙ r.hists)))
       (touches_counted mid front back on (a.rebases + 1) q.pieces q.turns refl (are_touches-kept p mid (KeepTables-same p mid refl) keep_spaces refl r.touches))
       (locks_counted mid front back on (a.rebases + 1) q.pieces q.turns refl new.work
       (are_locks-kept p mid old.work new.work more (KeepTables-same p mid refl) keep_spaces refl (ap (λ (c : Counters). are_locks p c.work) (sym same) ∙ r.locks)))
@@ -291,7 +275,7 @@ module _ (p : Parts) (old new : Counters) (front : List Space) (a : Space) (back
     ends = may.ends;
     count = length-append front (rebased_on y.parent b.log_length a ∷ back) ∙ sym (length-append front (a ∷ back)) ∙ sym (ap length may.spaces);
     here = space_here front back (rebased_on y.parent b.log_length a) a.number spaces_now refl ∙ ap (λ k. Some (rebased_on k b.log_length a)) may.under;
-    elsewhere = λ m other. elsewhere m (λ at. bool_apart (sym (eq-eqb m a.number (sym at)) ∙ other));
+    elsewhere = λ m other. elsewhere m (λ at. true≢false (sym (eq-eqb m a.number (sym at)) ∙ other));
     turns = refl;
     marks = refl;
     rest = refl;
@@ -316,19 +300,16 @@ module _ (p : Parts) (old new : Counters) (front : List Space) (a : Space) (back
       same_node : (w : Version) (n k : ℕ) → w.space ≡ n → w.parent ≡ k → node_of w ≡ record { number = w.number; space = n; parent = k }
       same_node w n k f g = rw (sym f, sym g) refl
 
-      lt_of : (m n : ℕ) → nat_lt m n ≡ true → m < n
-      lt_of m n e = grind (arith, e)
-
       leaf : IsLeaf y.number (newest_first (forked p new beside).versions)
       leaf = leaf_new p old new b a.parent beside fork_of rules
 
       grafted : Grafted p q (record { number = y.number; space = a.number; parent = latest p a.parent }) news
       grafted = record {
         some = fork.some;
-        under = lt_of (latest p a.parent) y.number (ap (λ k. nat_lt k y.number) (sym may.under) ∙ under);
+        under = ltb-true (latest p a.parent) y.number (ap (λ k. nat_lt k y.number) (sym may.under) ∙ under);
         below = fork.below;
         leaf = (subst (λ ns. IsLeaf y.number ns) fork.versions leaf).1;
-        versions = newest-behind y p.versions below ∙ ap (λ z. z ∷ newest_first p.versions) (same_node y a.number (latest p a.parent) may.its may.under);
+        versions = newest-push y p.versions below ∙ ap (λ z. z ∷ newest_first p.versions) (same_node y a.number (latest p a.parent) may.its may.under);
         empty = fork.empty;
         pieces = refl;
         its = its_pieces;

@@ -2,6 +2,7 @@
 -- workspace's own over it, and its path leads up from there.
 use Rattle.std.proofs.Common.{◌≡◌, ◌≢◌, ℕ, ◌+◌, ◌≤◌, Bool, true, false, if◌then◌else◌, List, [], ◌++◌, Option, Some, None, refl, sym, ap, subst, ◌∙◌, ◌⊎◌, inl, inr, arith}
 use Rattle.std.proofs.lemmas.Bool.{cases_eq}
+use Rattle.std.proofs.lemmas.Option.{same_Some}
 use Rattle.std.specs.List.{list_all}
 use Rattle.std.specs.Option.{option_map, option_or}
 use Rattle.wm_graph.specs.Parts.{Parts, row_of, space_of}
@@ -27,14 +28,11 @@ use Rattle.wm_rebased.proofs.RebasingFields.{WasRebased, WasSpace, base_away, ba
 use Rattle.wm_rebased.proofs.RebasingGrown.{covers-graft, covers-old, newest-graft, newest-old, seen-graft, seen-old}
 use Rattle.wm_state.proofs.Owning.{own_is}
 use Rattle.wm_state.specs.Editing.{rebased, turn_on}
+use Rattle.wm_written.proofs.WritingNamed.{map-or}
 
 -- what a workspace has of its own once it is rebased
 abbrev pub own_left : Bool → Workspace → List Entry
 own_left emptied w = if emptied then [] else w.lists.own
-
-map-or : (t o : Option Told) → option_or (option_map held_of t) (option_map held_of o) ≡ option_map held_of (option_or t o)
-map-or None o = refl
-map-or (Some t) o = refl
 
 -- the rows of entries over others are there, where those of each are
 rows_over : (p : Parts) (under own whole : List Entry) → HasRows p under → HasRows p whole → ((c : Cell) (x : Told) → told own c ≡ Some x → told whole c ≡ Some x) → HasRows p (under ++ own)
@@ -188,16 +186,13 @@ module _ (p q : Parts) (s t : Durable) (n number : ℕ) (emptied : Bool) (a b : 
       z : WasSpace p n (latest p a.parent) i c
       z = was_space i c recorded
 
-      some_turn : (x y : Turn) → Some x ≡ Some y → x ≡ y
-      some_turn x y e = cc
-
       by_how : WasRebased n emptied pw s.spaces i new → WasNamed p q s c.base_version new.parent turn.rebases turn.content ⊎ Tells q t.spaces c.base_version new.parent turn.rebases turn.content
       by_how y = by_case y.how
         where
           -- it is the newest one of the parent
           from_parent : i ≡ n → Names p s c.base_version new.parent turn.rebases turn.content
           from_parent here =
-              let taken : turn ≡ turn_on pw = some_turn turn (turn_on pw) (sym turned ∙ ap (λ (o : Workspace). turn_of o o.rebases) (now i new is here) ∙ new_turn) in
+              let taken : turn ≡ turn_on pw = same_Some turn (turn_on pw) (sym turned ∙ ap (λ (o : Workspace). turn_of o o.rebases) (now i new is here) ∙ new_turn) in
               Named-as p s _ _ _ _ _ _ _ _ (base_is i c here z) (ap (λ (o : Workspace). o.parent) (now i new is here)) (ap (λ (o : Turn). o.rebases) taken) (ap (λ (o : Turn). o.content) taken) parent_name
 
           by_case : ((i ≡ n) × (new ≡ rebased emptied pw y.old)) ⊎ ((i ≢ n) × (new ≡ y.old)) → WasNamed p q s c.base_version new.parent turn.rebases turn.content ⊎ Tells q t.spaces c.base_version new.parent turn.rebases turn.content

@@ -1,11 +1,13 @@
 -- Records in which the record of a workspace counts other rebases: every rule but that on turns asks of it what it asked. With one rebase
 -- more and its turn the rule on turns holds too.
 use Rattle.std.proofs.Common.{◌≡◌, ◌≢◌, ℕ, ◌+◌, ◌<◌, ◌==◌, nat_le, nat_lt, Bool, true, false, not, ◌&&◌, ◌||◌, cond, List, [], ◌∷◌, ◌++◌, length, Option, Some, is_some, refl, sym, ap, ◌∙◌, ◌⊎◌, inl, inr, arith}
-use Rattle.std.proofs.lemmas.Bool.{cases_eq, eq-eqb, eqb-true, ne_eqb}
+use Rattle.std.proofs.lemmas.Bool.{cases_eq, eq-eqb, eqb-true, ne_eqb, and_from, and_parts, or_parts}
 use Rattle.std.proofs.lemmas.List.Elements.{filter-append}
+use Rattle.std.proofs.lemmas.Option.{same_Some}
 use Rattle.std.specs.List.{count_by, filter, list_all, list_any}
 use Rattle.std.specs.Option.{option_map_or}
 use Rattle.std.specs.Str.{bytes_eq}
+use Rattle.wm_base.proofs.Plain.{nat_le-itself, nonzero}
 use Rattle.wm_graph.specs.Parts.{Parts, row_of, space_of, table_of, version_of}
 use Rattle.wm_graph.specs.Rules.{are_cells, are_hists, are_locks, are_marks, are_savepoints, are_spaces, are_touches, are_turns, asked_turns, differ, has_few, has_turns, is_asked, is_given, is_hist, is_lock, is_saved_in, is_savepoint, is_short, is_space, is_touch, is_trace, meet, same_position, same_savepoint, same_turn}
 use Rattle.wm_spec.specs.declared.record.hist.Hist.{Hist}
@@ -17,13 +19,13 @@ use Rattle.wm_spec.specs.declared.record.trace.Trace.{Trace}
 use Rattle.wm_spec.specs.declared.record.turn.Turn.{Turn}
 use Rattle.wm_state.specs.Drafts.{is_turn}
 use Rattle.wm_state.proofs.Apart.{found-passes}
-use Rattle.wm_state.proofs.Keeping.{asked, le_itself}
+use Rattle.wm_state.proofs.Keeping.{asked}
 use Rattle.wm_state.proofs.KeepingTurns.{RuledTurns, ruled_turns}
 use Rattle.wm_state.proofs.Making.{same_making}
 use Rattle.wm_state.proofs.Mapped.{all-found, any-if}
-use Rattle.wm_state.proofs.Named.{one_space, ruled_savepoints, space_number}
+use Rattle.wm_state.proofs.Named.{ruled_savepoints, space_number}
 use Rattle.wm_state.proofs.Respaced.{space_elsewhere, space_here}
-use Rattle.wm_state.proofs.Tests.{all_filter, all_if, all_middle, all_push, all_swap, and_true, any_filter, both, differ_filter, differ_push, either_false, find_swapped, some_swap}
+use Rattle.wm_state.proofs.Tests.{all_filter, all_if, all_middle, all_push, all_swap, any_filter, differ_filter, differ_push, find_swapped, some_swap}
 use Rattle.wm_forked.proofs.KeepSaved.{count_push}
 
 -- ---- another count of rebases
@@ -46,30 +48,30 @@ module _ (p : Parts) (front back : List Space) (a : Space) (rebases : ℕ) (piec
 
   saved : (work : ℕ) (x : Savepoint) → is_savepoint (space_of p.spaces) (version_of p.versions) work x ≡ true → is_savepoint (space_of q.spaces) (version_of p.versions) work x ≡ true
   saved work x is =
-      let h = both (is_short x.name && nat_le x.making (work + 2)) _ is in
-      and_true (is_short x.name && nat_le x.making (work + 2)) _ h.0 (alike (is_saved_in (version_of p.versions) x) refl x.space h.1)
+      let h = and_parts (is_short x.name && nat_le x.making (work + 2)) _ is in
+      and_from (is_short x.name && nat_le x.making (work + 2)) _ h.0 (alike (is_saved_in (version_of p.versions) x) refl x.space h.1)
 
   pub saves_counted : (work : ℕ) → are_savepoints p work ≡ true → are_savepoints q work ≡ true
   saves_counted work e =
       let r = ruled_savepoints p work e in
       let all : list_all (has_few p.savepoints) (front ++ a ∷ back) ≡ true = ap (list_all (has_few p.savepoints)) (sym old) ∙ r.few in
-      and_true (differ same_making p.savepoints) _ r.makings
-      (and_true (differ same_savepoint p.savepoints) _ r.names
-      (and_true (list_all (has_few p.savepoints) q.spaces) (list_all (is_savepoint (space_of q.spaces) (version_of p.versions) work) p.savepoints)
+      and_from (differ same_making p.savepoints) _ r.makings
+      (and_from (differ same_savepoint p.savepoints) _ r.names
+      (and_from (list_all (has_few p.savepoints) q.spaces) (list_all (is_savepoint (space_of q.spaces) (version_of p.versions) work) p.savepoints)
       (all_swap (has_few p.savepoints) (has_few p.savepoints) a b front back (λ s h. h) (all_middle (has_few p.savepoints) a front back all) all)
       (all_if (is_savepoint (space_of p.spaces) (version_of p.versions) work) (is_savepoint (space_of q.spaces) (version_of p.versions) work) (saved work) p.savepoints r.each)))
 
   hist : (next : ℕ) (x : Hist) → is_hist (table_of p.tables) (space_of p.spaces) (row_of p.rows) next x ≡ true → is_hist (table_of p.tables) (space_of q.spaces) (row_of p.rows) next x ≡ true
   hist next x is =
-      let h = both (is_short x.user && option_map_or (λ (s : Space). nat_lt x.position s.log_length) (space_of p.spaces x.space) false) _ is in
-      let g = both (is_short x.user) (option_map_or (λ (s : Space). nat_lt x.position s.log_length) (space_of p.spaces x.space) false) h.0 in
-      and_true (is_short x.user && option_map_or (λ (s : Space). nat_lt x.position s.log_length) (space_of q.spaces x.space) false) _
-      (and_true (is_short x.user) _ g.0 (alike (λ (s : Space). nat_lt x.position s.log_length) refl x.space g.1)) h.1
+      let h = and_parts (is_short x.user && option_map_or (λ (s : Space). nat_lt x.position s.log_length) (space_of p.spaces x.space) false) _ is in
+      let g = and_parts (is_short x.user) (option_map_or (λ (s : Space). nat_lt x.position s.log_length) (space_of p.spaces x.space) false) h.0 in
+      and_from (is_short x.user && option_map_or (λ (s : Space). nat_lt x.position s.log_length) (space_of q.spaces x.space) false) _
+      (and_from (is_short x.user) _ g.0 (alike (λ (s : Space). nat_lt x.position s.log_length) refl x.space g.1)) h.1
 
   pub hists_counted : (next : ℕ) → are_hists p next ≡ true → are_hists q next ≡ true
   hists_counted next e =
-      let h = both (differ same_position p.hists) (list_all (is_hist (table_of p.tables) (space_of p.spaces) (row_of p.rows) next) p.hists) e in
-      and_true (differ same_position p.hists) (list_all (is_hist (table_of p.tables) (space_of q.spaces) (row_of p.rows) next) p.hists) h.0
+      let h = and_parts (differ same_position p.hists) (list_all (is_hist (table_of p.tables) (space_of p.spaces) (row_of p.rows) next) p.hists) e in
+      and_from (differ same_position p.hists) (list_all (is_hist (table_of p.tables) (space_of q.spaces) (row_of p.rows) next) p.hists) h.0
       (all_if (is_hist (table_of p.tables) (space_of p.spaces) (row_of p.rows) next) (is_hist (table_of p.tables) (space_of q.spaces) (row_of p.rows) next) (hist next) p.hists h.1)
 
   given : (m place : ℕ) → is_given (space_of p.spaces) m place ≡ true → is_given (space_of q.spaces) m place ≡ true
@@ -77,39 +79,39 @@ module _ (p : Parts) (front back : List Space) (a : Space) (rebases : ℕ) (piec
 
   trace : (x : Trace) → is_trace (table_of p.tables) (space_of p.spaces) x ≡ true → is_trace (table_of p.tables) (space_of q.spaces) x ≡ true
   trace x is =
-      let h = both (are_cells (table_of p.tables) x.cells) (is_given (space_of p.spaces) x.space x.place) is in
-      and_true (are_cells (table_of p.tables) x.cells) (is_given (space_of q.spaces) x.space x.place) h.0 (given x.space x.place h.1)
+      let h = and_parts (are_cells (table_of p.tables) x.cells) (is_given (space_of p.spaces) x.space x.place) is in
+      and_from (are_cells (table_of p.tables) x.cells) (is_given (space_of q.spaces) x.space x.place) h.0 (given x.space x.place h.1)
 
   touch : (x : Trace) → is_touch (table_of p.tables) (space_of p.spaces) x ≡ true → is_touch (table_of p.tables) (space_of q.spaces) x ≡ true
   touch x is =
-      let h = both (is_trace (table_of p.tables) (space_of p.spaces) x) _ is in
-      and_true (is_trace (table_of p.tables) (space_of q.spaces) x) _ (trace x h.0) (alike (λ (s : Space). nat_lt x.position s.log_length) refl x.space h.1)
+      let h = and_parts (is_trace (table_of p.tables) (space_of p.spaces) x) _ is in
+      and_from (is_trace (table_of p.tables) (space_of q.spaces) x) _ (trace x h.0) (alike (λ (s : Space). nat_lt x.position s.log_length) refl x.space h.1)
 
   pub touches_counted : are_touches p ≡ true → are_touches q ≡ true
   touches_counted e =
-      let h = both (differ meet p.touches) (list_all (is_touch (table_of p.tables) (space_of p.spaces)) p.touches) e in
-      and_true (differ meet p.touches) (list_all (is_touch (table_of p.tables) (space_of q.spaces)) p.touches) h.0
+      let h = and_parts (differ meet p.touches) (list_all (is_touch (table_of p.tables) (space_of p.spaces)) p.touches) e in
+      and_from (differ meet p.touches) (list_all (is_touch (table_of p.tables) (space_of q.spaces)) p.touches) h.0
       (all_if (is_touch (table_of p.tables) (space_of p.spaces)) (is_touch (table_of p.tables) (space_of q.spaces)) touch p.touches h.1)
 
   -- the marks that a test keeps are in order too
   pub marks_counted : (k : Trace → Bool) → are_marks p ≡ true → are_marks (record q { marks = filter k p.marks }) ≡ true
   marks_counted k e =
-      let h = both (differ meet p.marks) (list_all (is_trace (table_of p.tables) (space_of p.spaces)) p.marks) e in
-      and_true (differ meet (filter k p.marks)) (list_all (is_trace (table_of p.tables) (space_of q.spaces)) (filter k p.marks)) (differ_filter meet k p.marks h.0)
+      let h = and_parts (differ meet p.marks) (list_all (is_trace (table_of p.tables) (space_of p.spaces)) p.marks) e in
+      and_from (differ meet (filter k p.marks)) (list_all (is_trace (table_of p.tables) (space_of q.spaces)) (filter k p.marks)) (differ_filter meet k p.marks h.0)
       (all_filter (is_trace (table_of p.tables) (space_of q.spaces)) k p.marks
       (all_if (is_trace (table_of p.tables) (space_of p.spaces)) (is_trace (table_of p.tables) (space_of q.spaces)) trace p.marks h.1))
 
   lock : (work : ℕ) (x : Lock) → is_lock (table_of p.tables) (space_of p.spaces) work x ≡ true → is_lock (table_of p.tables) (space_of q.spaces) work x ≡ true
   lock work x is =
-      let h = both (is_short x.user && nat_le x.making (work + 2)) _ is in
-      let g = both (are_cells (table_of p.tables) x.cells) (is_given (space_of p.spaces) x.space x.place) h.1 in
-      and_true (is_short x.user && nat_le x.making (work + 2)) _ h.0
-      (and_true (are_cells (table_of p.tables) x.cells) (is_given (space_of q.spaces) x.space x.place) g.0 (given x.space x.place g.1))
+      let h = and_parts (is_short x.user && nat_le x.making (work + 2)) _ is in
+      let g = and_parts (are_cells (table_of p.tables) x.cells) (is_given (space_of p.spaces) x.space x.place) h.1 in
+      and_from (is_short x.user && nat_le x.making (work + 2)) _ h.0
+      (and_from (are_cells (table_of p.tables) x.cells) (is_given (space_of q.spaces) x.space x.place) g.0 (given x.space x.place g.1))
 
   pub locks_counted : (work : ℕ) → are_locks p work ≡ true → are_locks q work ≡ true
   locks_counted work e =
-      let h = both (differ (λ (x y : Lock). x.making == y.making) p.locks) (list_all (is_lock (table_of p.tables) (space_of p.spaces) work) p.locks) e in
-      and_true (differ (λ (x y : Lock). x.making == y.making) p.locks) (list_all (is_lock (table_of p.tables) (space_of q.spaces) work) p.locks) h.0
+      let h = and_parts (differ (λ (x y : Lock). x.making == y.making) p.locks) (list_all (is_lock (table_of p.tables) (space_of p.spaces) work) p.locks) e in
+      and_from (differ (λ (x y : Lock). x.making == y.making) p.locks) (list_all (is_lock (table_of p.tables) (space_of q.spaces) work) p.locks) h.0
       (all_if (is_lock (table_of p.tables) (space_of p.spaces) work) (is_lock (table_of p.tables) (space_of q.spaces) work) (lock work) p.locks h.1)
 
 -- ---- one rebase more, and its turn
@@ -131,9 +133,6 @@ module _ (p : Parts) (front back : List Space) (a : Space) (pieces : List PieceR
   away : (m : ℕ) → m ≢ a.number → space_of z.spaces m ≡ space_of p.spaces m
   away m other = space_elsewhere front back a c m (λ same. other (sym same)) (λ same. other (sym same)) ∙ ap (λ ss. space_of ss m) (sym old)
 
-  not_zero : (m : ℕ) → 0 < m → (m == 0) ≡ false
-  not_zero m lt = grind (arith, lt)
-
   -- turns that were asked for are, and no others
   asked_one : (x : Turn) → is_turn a.number (a.rebases + 1) x ≡ false → is_asked (space_of z.spaces) x ≡ is_asked (space_of p.spaces) x
   asked_one x other = by_number (cases_eq x.space a.number)
@@ -154,13 +153,13 @@ module _ (p : Parts) (front back : List Space) (a : Space) (pieces : List PieceR
   asked_old : (xs : List Turn) → list_any (is_turn a.number (a.rebases + 1)) xs ≡ false → filter (is_asked (space_of z.spaces)) xs ≡ filter (is_asked (space_of p.spaces)) xs
   asked_old [] none = refl
   asked_old (x ∷ xs) none =
-      let h = either_false (is_turn a.number (a.rebases + 1) x) (list_any (is_turn a.number (a.rebases + 1)) xs) none in
+      let h = or_parts (is_turn a.number (a.rebases + 1) x) (list_any (is_turn a.number (a.rebases + 1)) xs) none in
       rw (asked_one x h.0) (ap (λ ys. cond (is_asked (space_of p.spaces) x) (x ∷ ys) ys) (asked_old xs h.1))
 
   asked_new : is_asked (space_of z.spaces) u ≡ true
-  asked_new = and_true (not (u.space == 0)) _
-      (ap (λ k. not (k == 0)) its ∙ ap not (not_zero a.number child))
-      (ap (λ o. option_map_or (λ (s : Space). nat_le u.rebase s.rebases) o false) (ap (space_of z.spaces) its ∙ found_now) ∙ ap (λ k. nat_le k (a.rebases + 1)) number ∙ le_itself (a.rebases + 1))
+  asked_new = and_from (not (u.space == 0)) _
+      (ap (λ k. not (k == 0)) its ∙ ap not (nonzero a.number child))
+      (ap (λ o. option_map_or (λ (s : Space). nat_le u.rebase s.rebases) o false) (ap (space_of z.spaces) its ∙ found_now) ∙ ap (λ k. nat_le k (a.rebases + 1)) number ∙ nat_le-itself (a.rebases + 1))
 
   asked_now : asked_turns z ≡ asked_turns p ++ u ∷ []
   asked_now =
@@ -174,11 +173,11 @@ module _ (p : Parts) (front back : List Space) (a : Space) (pieces : List PieceR
 
   has_one_more : has_turns (asked_turns p) a ≡ true → has_turns (asked_turns p ++ u ∷ []) c ≡ true
   has_one_more has =
-      ap (λ t. t || (count_by (λ (x : Turn). x.space == a.number) (asked_turns p ++ u ∷ []) == a.rebases + 1 + 1)) (not_zero a.number child)
+      ap (λ t. t || (count_by (λ (x : Turn). x.space == a.number) (asked_turns p ++ u ∷ []) == a.rebases + 1 + 1)) (nonzero a.number child)
       ∙ eq-eqb _ _
       (counted a.number
       ∙ ap (λ t. count_by (λ (x : Turn). x.space == a.number) (asked_turns p) + cond t 1 0) (eq-eqb a.number a.number refl)
-      ∙ ap (λ k. k + 1) (eqb-true _ _ (sym (ap (λ t. t || (count_by (λ (x : Turn). x.space == a.number) (asked_turns p) == a.rebases + 1)) (not_zero a.number child)) ∙ has)))
+      ∙ ap (λ k. k + 1) (eqb-true _ _ (sym (ap (λ t. t || (count_by (λ (x : Turn). x.space == a.number) (asked_turns p) == a.rebases + 1)) (nonzero a.number child)) ∙ has)))
 
   has_still : (s : Space) → s.number ≢ a.number → has_turns (asked_turns p) s ≡ true → has_turns (asked_turns p ++ u ∷ []) s ≡ true
   has_still s other has =
@@ -196,12 +195,12 @@ module _ (p : Parts) (front back : List Space) (a : Space) (pieces : List PieceR
     where
       numbers : differ (λ (s t : Space). s.number == t.number) z.spaces ≡ true
       numbers =
-          let h = both (nat_le (length z.spaces) 1024 && is_some (space_of z.spaces 0)) _ after in
-          (both (differ (λ (s t : Space). s.number == t.number) z.spaces) (differ (λ (s t : Space). bytes_eq s.name t.name) z.spaces && list_all (is_space (space_of z.spaces)) z.spaces) h.1).0
+          let h = and_parts (nat_le (length z.spaces) 1024 && is_some (space_of z.spaces 0)) _ after in
+          (and_parts (differ (λ (s t : Space). s.number == t.number) z.spaces) (differ (λ (s t : Space). bytes_eq s.name t.name) z.spaces && list_all (is_space (space_of z.spaces)) z.spaces) h.1).0
 
       by_number : (m : ℕ) (s : Space) → space_of z.spaces m ≡ Some s → (m ≡ a.number) ⊎ (m ≢ a.number) → has_turns (asked_turns p ++ u ∷ []) s ≡ true
       by_number m s is (inl here) =
-          ap (has_turns (asked_turns p ++ u ∷ [])) (one_space s c (sym is ∙ ap (space_of z.spaces) here ∙ found_now))
+          ap (has_turns (asked_turns p ++ u ∷ [])) (same_Some s c (sym is ∙ ap (space_of z.spaces) here ∙ found_now))
           ∙ has_one_more (found-passes (λ (x : Space). x.number == a.number) (has_turns (asked_turns p)) p.spaces a found has).1
       by_number m s is (inr other) =
           let there : space_of p.spaces m ≡ Some s = sym (away m other) ∙ is in
@@ -209,12 +208,12 @@ module _ (p : Parts) (front back : List Space) (a : Space) (pieces : List PieceR
 
   pub turns_rebased : are_turns p ≡ true → are_turns z ≡ true
   turns_rebased e =
-      and_true (list_all (λ (x : Turn). is_some (space_of z.spaces x.space)) z.turns) _
+      and_from (list_all (λ (x : Turn). is_some (space_of z.spaces x.space)) z.turns) _
       (all_push (λ (x : Turn). is_some (space_of z.spaces x.space)) p.turns u
       (all_if (λ (x : Turn). is_some (space_of p.spaces x.space)) (λ (x : Turn). is_some (space_of z.spaces x.space))
       (λ x is. some_swap (λ (s : Space). s.number == x.space) a c refl front back ∙ ap (λ ss. is_some (space_of ss x.space)) (sym old) ∙ is) p.turns rule.there)
       (ap is_some (ap (space_of z.spaces) its ∙ found_now)))
-      (and_true (differ same_turn (asked_turns z)) (list_all (has_turns (asked_turns z)) z.spaces)
+      (and_from (differ same_turn (asked_turns z)) (list_all (has_turns (asked_turns z)) z.spaces)
       (ap (differ same_turn) asked_now
       ∙ differ_push same_turn (asked_turns p) u rule.numbers
       (any-if (is_turn a.number (a.rebases + 1)) (λ x. same_turn x u)

@@ -2,6 +2,7 @@
 use Rattle.std.proofs.Common.{◌≡◌, ◌≢◌, ℕ, ◌+◌, ◌<◌, ◌==◌, Bool, true, false, ◌&&◌, not, cond, List, [], ◌∷◌, ◌++◌, length, length-append, max, Option, Some, None, refl, sym, ap, subst, ◌∙◌, ◌⊎◌, inl, inr, arith}
 use Rattle.std.proofs.lemmas.Bool.{cases_eq, eq-eqb, eqb-true, ne_eqb}
 use Rattle.std.proofs.lemmas.List.Elements.{All-nil}
+use Rattle.std.proofs.lemmas.Option.{same_Some}
 use Rattle.std.specs.List.{All, filter, list_any, slice_get}
 use Rattle.std.specs.Option.{option_map, option_or}
 use Rattle.wm_graph.specs.Parts.{Parts}
@@ -188,12 +189,9 @@ module _ (p q : Parts) (s t : Durable) (n number : ℕ) (emptied : Bool) (a b : 
   RowsStand-rebased : KeepReady s.tables t.tables → NamedStand p s → EntriesStand s → RowsStand p s → RowsStand q t
   RowsStand-rebased ready named entries stand = record { logs = logs-kept p q s t keep_rows ready logs_rebased entries stand.logs; turns = taken }
     where
-      some_same : (x y : Turn) → Some x ≡ Some y → x ≡ y
-      some_same x y e = cc
-
       -- what it took of its parent has its rows there
       by_last : (c : Bool) (x : Turn) → cond c (Some (turn_on pw)) None ≡ Some x → HasRows q x.content
-      by_last true x is = subst (λ (o : Turn). HasRows q o.content) (some_same (turn_on pw) x is) (HasRows-kept p q keep_rows (content pw) (named.tells _ _ _ _ (Newest pw g.parent)).rows)
+      by_last true x is = subst (λ (o : Turn). HasRows q o.content) (same_Some (turn_on pw) x is) (HasRows-kept p q keep_rows (content pw) (named.tells _ _ _ _ (Newest pw g.parent)).rows)
       by_last false x is = cc
 
       by_old : (i : ℕ) (x : Turn) (o : Option Turn) → slice_get w.turns i ≡ o → option_or o (cond (i == length w.turns) (Some (turn_on pw)) None) ≡ Some x → HasRows q x.content

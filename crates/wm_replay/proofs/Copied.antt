@@ -1,6 +1,7 @@
 -- What a workspace keeps of its own, as records, and the draft of a workspace that stands on its parent as that is now.
 use Rattle.std.proofs.Common.{◌≡◌, ℕ, ◌+◌, ◌<◌, ◌≤◌, Bool, true, if◌then◌else◌, List, [], ◌∷◌, ◌++◌, append_assoc, append-nil, get_or, take, length, map, Option, Some, None, Bor, is_some, refl, sym, ap, subst, ◌∙◌}
 use Rattle.std.proofs.lemmas.List.{map-append, take_more}
+use Rattle.std.proofs.lemmas.Bool.{true≢false}
 use Rattle.std.specs.Option.{IsSome, option_copied}
 use Rattle.wm_append.proofs.Appended.{written_places}
 use Rattle.wm_append.specs.Appending.{AreWritten}
@@ -24,7 +25,6 @@ use Rattle.wm_spec.specs.declared.record.piece.PieceRecord.{PieceRecord}
 use Rattle.wm_spec.specs.declared.record.space.Space.{Space}
 use Rattle.wm_spec.specs.declared.record.stored.Stored.{Stored}
 use Rattle.wm_state.proofs.Named.{space_number}
-use Rattle.wm_state.proofs.Tests.{bool_apart}
 use Rattle.wm_state.specs.Copied.{AreCopied, KeyPieces, piece_for, pieces_for}
 use Rattle.wm_state.specs.Drafts.{CanRebase, CanWork, DraftsBy}
 use Rattle.wm_state.specs.Points.{versioned}
@@ -106,7 +106,7 @@ pub parent_there : (rs : List Stored) (n : ℕ) (a : Space) (r : Option (Bor Spa
 parent_there rs n a r rules some found same = by_result r (ap is_some same ∙ parent_recorded (parts_of rs) rules n a some found)
   where
     by_result : (o : Option (Bor Space)) → is_some (option_copied o) ≡ true → IsSome o
-    by_result None none = absurd (bool_apart (sym none))
+    by_result None none = absurd (true≢false (sym none))
     by_result (Some b) there = refl
 
 -- the workspace is there, as it stands on its parent

@@ -1,6 +1,7 @@
 -- What entries of several tables touch is drawn over the touches of a workspace.
-use Rattle.std.proofs.Common.{◌≡◌, ℕ, ◌+◌, ◌<◌, nat_lt, true, not, List, [], ◌∷◌, map, refl, sym, subst, ◌∙◌, arith}
+use Rattle.std.proofs.Common.{◌≡◌, ℕ, ◌+◌, nat_lt, true, not, List, [], ◌∷◌, map, refl, sym, subst, ◌∙◌}
 use Rattle.std.proofs.lemmas.List.Elements.{All-head, All-tail}
+use Rattle.std.proofs.lemmas.Bool.{and_from, and_parts, lt-ltb}
 use Rattle.std.specs.List.{All, list_all}
 use Rattle.std.specs.Ordering.{is_gt}
 use Rattle.wm_append.proofs.News.{marks_here}
@@ -17,7 +18,6 @@ use Rattle.wm_spec.specs.declared.record.piece.PieceRecord.{PieceRecord}
 use Rattle.wm_spec.specs.declared.record.space.Space.{Space}
 use Rattle.wm_spec.specs.declared.record.stored.Stored.{Stored}
 use Rattle.wm_spec.specs.declared.record.table.Table.{Table}
-use Rattle.wm_state.proofs.Tests.{and_true, both}
 use Rattle.wm_state.specs.Drafts.{are_in_order, entry_order}
 use Rattle.wm_state.specs.Drawing.{AreDrawn, has_moments, is_clear, touched as met_by}
 use Rattle.wm_state.specs.Standing.{IsReal}
@@ -31,19 +31,16 @@ use Rattle.wm_written.proofs.TouchesKept.{drawn-at, marks-at, traced-at}
 marks_last : (tables : List Table) (place start : ℕ) (es : List Entry) → All (IsReal tables) es → list_all has_moments (marks_of place start es) ≡ true
 marks_last tables place start [] real = refl
 marks_last tables place start (e ∷ es) real =
-    and_true (nat_lt e.from e.till) (list_all has_moments (marks_of place (start + 1) es)) (below e.from e.till (All-head (IsReal tables) e es real).some)
+    and_from (nat_lt e.from e.till) (list_all has_moments (marks_of place (start + 1) es)) (lt-ltb e.from e.till (All-head (IsReal tables) e es real).some)
     (marks_last tables place (start + 1) es (All-tail (IsReal tables) e es real))
-  where
-    below : (m n : ℕ) → m < n → nat_lt m n ≡ true
-    below m n lt = grind (arith, lt)
 
 -- those of entries in order stand so too
 marks_sorted : (place start : ℕ) (es : List Entry) → are_in_order es ≡ true → are_ascending (piece_cells (marks_of place start es)) ≡ true
 marks_sorted place start [] up = refl
 marks_sorted place start (e ∷ []) up = refl
 marks_sorted place start (e ∷ f ∷ fs) up =
-    let h = both (not (is_gt (entry_order e f))) (are_in_order (f ∷ fs)) up in
-    and_true (not (is_gt (entry_order e f))) (are_ascending (piece_cells (marks_of place (start + 1) (f ∷ fs)))) h.0 (marks_sorted place (start + 1) (f ∷ fs) h.1)
+    let h = and_parts (not (is_gt (entry_order e f))) (are_in_order (f ∷ fs)) up in
+    and_from (not (is_gt (entry_order e f))) (are_ascending (piece_cells (marks_of place (start + 1) (f ∷ fs)))) h.0 (marks_sorted place (start + 1) (f ∷ fs) h.1)
 
 pub marks_new : (tables : List Table) (place start : ℕ) (es : List Entry) → All (IsReal tables) es → are_in_order es ≡ true → AreNewsOf place (marks_of place start es)
 marks_new tables place start es real up = record {

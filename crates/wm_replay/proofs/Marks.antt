@@ -1,5 +1,6 @@
 -- The marks that go where a workspace stands on its parent: all of it, each once.
-use Rattle.std.proofs.Common.{◌≡◌, ℕ, ◌==◌, Bool, true, false, not, cond, List, [], ◌∷◌, length, is_some, refl, ap, ◌∙◌, arith}
+use Rattle.std.proofs.Common.{◌≡◌, ℕ, ◌==◌, Bool, true, false, not, cond, List, [], ◌∷◌, length, is_some, refl, ap, ◌∙◌, arith, sym}
+use Rattle.std.proofs.Math.Bool.{not-not}
 use Rattle.std.specs.List.{cons_option, filter, list_all, list_any}
 use Rattle.wm_changes.proofs.Dropping.{differ-with, told-with}
 use Rattle.wm_changes.proofs.DroppingAll.{there_all}
@@ -17,11 +18,7 @@ use Rattle.wm_state.specs.ById.{Ascend}
 
 -- what goes is what is sought
 sought_goes : (n : ℕ) (r : Record) → is_sought (MarksIn n) r ≡ not (keeps_unmarked n r)
-sought_goes n (records.Mark x) = by_test (x.space == n)
-  where
-    by_test : (b : Bool) → b ≡ not (not b)
-    by_test true = refl
-    by_test false = refl
+sought_goes n (records.Mark x) = sym (not-not (x.space == n))
 sought_goes n _ = refl
 
 pub marks_are : (rs : List Stored) (n : ℕ) (ids : List ℕ) → Ascend rs → ids ≡ ids_with (is_sought (MarksIn n)) rs → AreMarksOf rs n ids

@@ -1,6 +1,6 @@
 -- How many records a rebase changes: a version, a turn, the pieces of that version, and the marks that go.
 use Rattle.std.proofs.Common.{◌≡◌, ℕ, ◌+◌, ◌≤◌, ◌==◌, nat_lt, Bool, true, cond, List, [], ◌∷◌, ◌++◌, map, length, None, Some, refl, sym, ap, subst, ◌∙◌, arith, length-append}
-use Rattle.std.proofs.lemmas.Bool.{eq-eqb}
+use Rattle.std.proofs.lemmas.Bool.{eq-eqb, and_from, and_parts}
 use Rattle.std.proofs.lemmas.List.{length-map}
 use Rattle.std.proofs.lemmas.List.Elements.{filter-append}
 use Rattle.std.proofs.lemmas.List.Folds.{list_all-append}
@@ -8,7 +8,6 @@ use Rattle.std.specs.List.{filter, list_all}
 use Rattle.wm_append.proofs.Appended.{written_places}
 use Rattle.wm_append.specs.Appending.{AreWritten}
 use Rattle.wm_forked.proofs.DraftedSaved.{home_there}
-use Rattle.wm_forked.proofs.Sprouting.{newest-behind}
 use Rattle.wm_graph.specs.Parts.{Parts, parts_of, space_of, version_of}
 use Rattle.wm_graph.specs.Rules.{is_version, keep_rules}
 use Rattle.wm_index.specs.Sought.{MarksIn, ids_with, is_sought}
@@ -32,9 +31,9 @@ use Rattle.wm_spec.specs.declared.record.space.Space.{Space}
 use Rattle.wm_spec.specs.declared.record.stored.Stored.{Stored}
 use Rattle.wm_spec.specs.declared.record.version.Version.{Version}
 use Rattle.wm_state.proofs.Apart.{ruled, ruled_versions}
-use Rattle.wm_state.proofs.Growing.{same_counters}
+use Rattle.wm_state.proofs.Growing.{same_counters, newest-push}
 use Rattle.wm_state.proofs.Named.{space_number}
-use Rattle.wm_state.proofs.Tests.{all_if, and_true, both}
+use Rattle.wm_state.proofs.Tests.{all_if}
 use Rattle.wm_state.specs.ById.{applied}
 use Rattle.wm_state.specs.Copied.{KeyPieces, piece_for, pieces_for}
 use Rattle.wm_state.specs.Points.{versioned}
@@ -50,17 +49,17 @@ all_its : (version : ℕ) (ks : List KeyPieces) → list_all (λ (x : PieceRecor
 all_its version [] = refl
 all_its version (k ∷ ks) =
     list_all-append (λ (x : PieceRecord). x.version == version) (map (piece_for version k.table k.key) k.pieces) (pieces_for version ks)
-    ∙ and_true (list_all (λ (x : PieceRecord). x.version == version) (map (piece_for version k.table k.key) k.pieces)) (list_all (λ (x : PieceRecord). x.version == version) (pieces_for version ks)) (one k.pieces) (all_its version ks)
+    ∙ and_from (list_all (λ (x : PieceRecord). x.version == version) (map (piece_for version k.table k.key) k.pieces)) (list_all (λ (x : PieceRecord). x.version == version) (pieces_for version ks)) (one k.pieces) (all_its version ks)
   where
     one : (xs : List Piece) → list_all (λ (x : PieceRecord). x.version == version) (map (piece_for version k.table k.key) xs) ≡ true
     one [] = refl
-    one (x ∷ xs) = and_true (version == version) (list_all (λ (y : PieceRecord). y.version == version) (map (piece_for version k.table k.key) xs)) (eq-eqb version version refl) (one xs)
+    one (x ∷ xs) = and_from (version == version) (list_all (λ (y : PieceRecord). y.version == version) (map (piece_for version k.table k.key) xs)) (eq-eqb version version refl) (one xs)
 
 -- so all of them are found among others
 all_pass : {X : Type 0} (test : X → Bool) (xs : List X) → list_all test xs ≡ true → length (filter test xs) ≡ length xs
 all_pass test [] all = refl
 all_pass test (x ∷ xs) all =
-    let h = both (test x) (list_all test xs) all in
+    let h = and_parts (test x) (list_all test xs) all in
     let rest = all_pass test xs h.1 in
     ap (λ b. length (cond b (x ∷ filter test xs) (filter test xs))) h.0 ∙ omega (arith, rest)
 
@@ -74,7 +73,7 @@ behind_others version others its all =
 -- the version that comes behind all others is the newest of its workspace
 newest_new : (versions : List Version) (y : Version) (n : ℕ) → y.space ≡ n → list_all (λ (v : Version). nat_lt v.number y.number) versions ≡ true → latest_in (newest_first (versions ++ y ∷ [])) n ≡ y.number
 newest_new versions y n its below =
-    ap (λ (nodes : List Node). latest_in nodes n) (newest-behind y versions below) ∙ ap (λ b. cond b y.number (latest_in (newest_first versions) n)) (eq-eqb y.space n its)
+    ap (λ (nodes : List Node). latest_in nodes n) (newest-push y versions below) ∙ ap (λ b. cond b y.number (latest_in (newest_first versions) n)) (eq-eqb y.space n its)
 
 -- ---- the price
 
@@ -105,7 +104,7 @@ module _ (rs : List Stored) (m work base id : ℕ) (a b new : Space) (c counters
       below =
           let r = ruled (parts_of rs) rules in
           all_if (is_version (space_of (parts_of rs).spaces) (version_of (parts_of rs).versions) r.counters.next_version) (λ (v : Version). nat_lt v.number c.next_version)
-          (λ v is. ap (λ (k : Counters). nat_lt v.number k.next_version) (sym (same_counters (parts_of rs) c r.counters one r.one)) ∙ (both (nat_lt v.number r.counters.next_version) _ is).0) (parts_of rs).versions
+          (λ v is. ap (λ (k : Counters). nat_lt v.number k.next_version) (sym (same_counters (parts_of rs) c r.counters one r.one)) ∙ (and_parts (nat_lt v.number r.counters.next_version) _ is).0) (parts_of rs).versions
           (ruled_versions (parts_of rs) r.counters.next_version r.versions).each
 
       its_there : a.number ≡ n → length its ≤ length (pieces_at (parts_of (applied changes rs)) (latest (parts_of (applied changes rs)) n))

@@ -145,9 +145,9 @@ pub fn rebase(
         rebases: parent.rebases,
     };
     let mut news = first_news(alloc, version, turn)?;
-    let said = push_keys(alloc, &mut news, before.next_version, own.as_slice());
+    let pushed = push_keys(alloc, &mut news, before.next_version, own.as_slice());
     drop(own);
-    said?;
+    pushed?;
     let counters = versioned(before, moment, work);
     let id = ids_from(image, news.len() as u64)?;
     let dropped = mark_ids(alloc, image, space)?;

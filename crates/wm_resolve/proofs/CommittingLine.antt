@@ -1,6 +1,7 @@
 -- What CommitResolve does to each state that the records stand for.
 use Rattle.std.proofs.Common.{◌≡◌, ℕ, ◌+◌, ◌-◌, ◌==◌, nat_lt, length, Bool, true, false, if◌then◌else◌, List, [], ◌∷◌, ◌++◌, map, Option, Some, None, refl, sym, ap, ◌∙◌, codes, subst}
 use Rattle.std.proofs.lemmas.List.Elements.{All-head, All-nil, All-tail}
+use Rattle.std.proofs.lemmas.Option.{same_Some}
 use Rattle.std.specs.List.{All, find}
 use Rattle.std.specs.Str.{bytes_eq}
 use Rattle.std.specs.Option.{option_map_or}
@@ -28,7 +29,6 @@ use Rattle.wm_model.specs.Step.{at_its_end, commit, commit_resolve, counter_limi
 use Rattle.wm_model.specs.Step.Sessions as settings
 use Rattle.wm_model.specs.Undone.{NamesSpace}
 use Rattle.wm_state.proofs.EditedLater.{all_edited_append}
-use Rattle.wm_telling.proofs.Beside.{some_same}
 use Rattle.wm_model.specs.Merged.{replay_edits}
 use Rattle.wm_model.proofs.MergedEdits.{all_replayed, with_space-again}
 use Rattle.wm_model.proofs.Doing.{does_nothing, does_seat, not_spent_at, spent_at, spent_log}
@@ -46,7 +46,7 @@ with_space-here n act other w (v ∷ vs) found same = by_test (v.number == n) fo
   where
     by_test : (b : Bool) → (if b then Some v else workspace_of vs n) ≡ Some w → (workspace_of vs n ≡ Some w → with_space n act vs ≡ with_space n other vs)
         → (if b then act v ∷ vs else v ∷ with_space n act vs) ≡ (if b then other v ∷ vs else v ∷ with_space n other vs)
-    by_test true is rest = ap (λ (x : Workspace). x ∷ vs) (subst (λ (x : Workspace). act x ≡ other x) (sym (some_same v w is)) same)
+    by_test true is rest = ap (λ (x : Workspace). x ∷ vs) (subst (λ (x : Workspace). act x ≡ other x) (sym (same_Some v w is)) same)
     by_test false is rest = ap (λ (xs : List Workspace). v ∷ xs) (rest is)
 
 -- edits that are some are counted
@@ -121,7 +121,7 @@ module _ (rs : List Stored) (xs : List Session) (m : ℕ) (session : Session) (w
       staged_found test (y ∷ ys) x each found = by_test (test y) (staged_found test ys x (All-tail (λ (z : Session). IsStagedResolve (parts_of rs) z.resolve) y ys each)) found
         where
           by_test : (b : Bool) → (find test ys ≡ Some x → IsStagedResolve (parts_of rs) x.resolve) → (if b then Some y else find test ys) ≡ Some x → IsStagedResolve (parts_of rs) x.resolve
-          by_test true rest is = subst (λ (z : Session). IsStagedResolve (parts_of rs) z.resolve) (some_same y x is) (All-head (λ (z : Session). IsStagedResolve (parts_of rs) z.resolve) y ys each)
+          by_test true rest is = subst (λ (z : Session). IsStagedResolve (parts_of rs) z.resolve) (same_Some y x is) (All-head (λ (z : Session). IsStagedResolve (parts_of rs) z.resolve) y ys each)
           by_test false rest is = rest is
 
       by_resolve : (o : Option Resolve) → IsStagedResolve (parts_of rs) o → All (IsStaged (parts_of rs)) (option_map_or (λ (r : Resolve). r.decisions) o [])

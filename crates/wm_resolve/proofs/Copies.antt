@@ -2,6 +2,8 @@
 use Rattle.std.proofs.Common.{◌≡◌, ℕ, ◌+◌, ◌<◌, ◌≤◌, ◌==◌, ◌&&◌, nat_lt, max, min, Bool, true, false, if◌then◌else◌, List, [], ◌∷◌, ◌++◌, drop, length, take, get_or, Option, None, Some, option_map, refl, sym, ap, ◌∙◌, arith, subst, eqb-true}
 use Rattle.std.proofs.lemmas.Bool.Decides.{nat_tests}
 use Rattle.std.proofs.lemmas.List.{append_assoc, drop_more, take_all, take_more}
+use Rattle.std.proofs.lemmas.Bool.{and_parts}
+use Rattle.std.proofs.lemmas.Option.{same_Some}
 use Rattle.std.specs.Bool.{then_some}
 use Rattle.std.specs.Option.{option_or}
 use Rattle.wm_base.proofs.Plain.{option_or-none, option_or_assoc}
@@ -15,9 +17,7 @@ use Rattle.wm_net.proofs.Stretching.{within_is, within_not_after}
 use Rattle.wm_period.specs.Pieces.{Between, Held, held, held_at}
 use Rattle.wm_period.specs.declared.piece.Piece.{Piece}
 use Rattle.wm_spec.specs.Lists.{Told}
-use Rattle.wm_state.proofs.Tests.{both}
 use Rattle.wm_telling.specs.Telling.{told_by}
-use Rattle.wm_telling.proofs.Beside.{some_same}
 use Rattle.wm_resolve.specs.Copying.{AreCopies, SayOne, copy_in, extended, laid, shares}
 
 -- ---- one more
@@ -79,7 +79,7 @@ value_extended {A = A} same low (x ∷ []) s o ends real one t = by_test ((x.til
         → value_at (if b then record { from = x.from; till = s.till; value = x.value } ∷ [] else x ∷ s ∷ []) t ≡ option_or (then_some (within s.from s.till t) s.value) (then_some (within x.from x.till t) x.value)
     by_test false is = ap (λ o. option_or o (then_some (within x.from x.till t) x.value)) refl
     by_test true is =
-        let two = both (x.till == s.from) (same x.value s.value) is in
+        let two = and_parts (x.till == s.from) (same x.value s.value) is in
         ap (λ b. then_some b x.value) (longer x.from x.till s.from s.till t (eqb-true x.till s.from two.0) o.1 real)
         ∙ by_tests (within s.from s.till t) (within x.from x.till t)
         ∙ ap (λ v. option_or (then_some (within s.from s.till t) v) (then_some (within x.from x.till t) x.value)) (one x.from x.value here two.1)
@@ -125,7 +125,7 @@ module _ (p : Parts) (from till : ℕ) (low : ℕ) (ps : List Piece) (ss : List 
       by_within : (b : Bool) (o : Option Held) → held_at ps t ≡ o → (if b then option_map (told_by p) o else None) ≡ Some v → v ≡ told_by p (held x)
       by_within true None at e = absurd (cc)
       by_within true (Some h) at e =
-          let told : told_by p h ≡ v = some_same (told_by p h) v e in
+          let told : told_by p h ≡ v = same_Some (told_by p h) v e in
           sym told
           ∙ ap (told_by p)
           (say t x.period.from h (held x) (held_append ps x t ∙ ap (λ o. option_or o (then_some (covers x.period t) (held x))) at) last_held

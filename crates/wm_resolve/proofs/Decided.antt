@@ -3,8 +3,10 @@ use Rattle.std.proofs.Common.{◌≡◌, ◌<◌, ◌≤◌, ◌==◌, ℕ, ◌+
 use Rattle.std.proofs.lemmas.List.{map-append, take_all, take_more}
 use Rattle.std.proofs.lemmas.List.Elements.{filter_map-append}
 use Rattle.std.proofs.lemmas.Bool.Decides.{nat_tests}
+use Rattle.std.proofs.lemmas.Bool.{and_parts}
 use Rattle.std.specs.List.{cons_option, filter_map}
 use Rattle.std.specs.Option.{option_copied}
+use Rattle.wm_base.proofs.Plain.{copied_some}
 use Rattle.wm_graph.specs.Parts.{parts_of, space_of}
 use Rattle.wm_rebased.proofs.RebasingFields.{parent_recorded}
 use Rattle.wm_spec.specs.declared.record.space.Space.{Space}
@@ -14,7 +16,6 @@ use Rattle.wm_model.specs.Merged.{NamesFamily}
 use Rattle.wm_model.specs.Step.{has_open}
 use Rattle.wm_model.specs.Undone.{NamesSpace}
 use Rattle.wm_model.proofs.RollingLine.{named_numbered}
-use Rattle.wm_state.proofs.Tests.{both}
 
 -- ---- all of them
 
@@ -46,15 +47,11 @@ some_of (x ∷ xs) some none = cc
 -- ---- the workspace and its parent
 
 pub not_live : (n : ℕ) (session : Session) → has_open n session ≡ true → 0 < n
-not_live n session has = let some = (both (nat_lt 0 n) _ has).0 in grind (arith, nat_tests, some)
-
-parent_copied : {A : Type 0} (r : Option (Bor A)) (o : Option A) → option_copied r ≡ o → is_some o ≡ true → is_some r ≡ true
-parent_copied None o is some = ap is_some is ∙ some
-parent_copied (Some x) o is some = refl
+not_live n session has = let some = (and_parts (nat_lt 0 n) _ has).0 in grind (arith, nat_tests, some)
 
 pub parent_found : (rs : List Stored) (workspace : List ℕ) (a : Space) (session : Session) (r : Option (Bor Space)) → NamesSpace rs workspace a → has_open a.number session ≡ true → option_copied r ≡ space_of (parts_of rs).spaces a.parent → is_some r ≡ true
 parent_found rs workspace a session r names has found =
-    parent_copied r (space_of (parts_of rs).spaces a.parent) found (parent_recorded (parts_of rs) names.rules a.number a (not_live a.number session has) (named_numbered rs workspace a names))
+    copied_some r (space_of (parts_of rs).spaces a.parent) found (parent_recorded (parts_of rs) names.rules a.number a (not_live a.number session has) (named_numbered rs workspace a names))
 
 pub family_named : (rs : List Stored) (workspace : List ℕ) (a : Space) (session : Session) (r : Option (Bor Space)) (b : Space) → NamesSpace rs workspace a → has_open a.number session ≡ true
     → option_copied r ≡ space_of (parts_of rs).spaces a.parent → option_copied r ≡ Some b → NamesFamily rs workspace a b

@@ -2,6 +2,8 @@
 use Rattle.std.proofs.Common.{◌≡◌, ℕ, ◌+◌, ◌==◌, ◌&&◌, nat_le, nat_lt, Bool, true, false, if◌then◌else◌, List, [], ◌∷◌, length, Option, None, Some, is_some, option_map, refl, sym, ap, ◌∙◌, subst, arith, eqb-true}
 use Rattle.std.proofs.lemmas.Bool.Decides.{nat_tests}
 use Rattle.std.proofs.lemmas.List.Elements.{All-cons, All-filter, All-head, All-nil, All-tail}
+use Rattle.std.proofs.lemmas.Bool.{and_from, and_parts}
+use Rattle.std.proofs.lemmas.Option.{same_Some}
 use Rattle.std.specs.Bool.{then_some}
 use Rattle.std.specs.List.{All, cons_option, filter, filter_map, list_all}
 use Rattle.std.specs.Option.{option_map_or, option_or}
@@ -31,21 +33,21 @@ use Rattle.wm_state.specs.Drafts.{can_keep}
 use Rattle.wm_state.specs.Standing.{IsReal, held_of, is_ready}
 use Rattle.wm_state.specs.State.{Decision, Session, State, Workspace}
 use Rattle.wm_state.proofs.Ready.{tables_found}
-use Rattle.wm_state.proofs.Tests.{and_true, both}
 use Rattle.wm_telling.specs.Sides.{sides}
 use Rattle.wm_telling.specs.Telling.{clash_held}
-use Rattle.wm_telling.proofs.Beside.{child_recorded, own_is_held, some_same}
+use Rattle.wm_telling.proofs.Beside.{child_recorded, own_is_held}
 use Rattle.wm_model.specs.Merged.{NamesFamily}
 use Rattle.wm_model.specs.Planning.{StandsAt}
 use Rattle.wm_model.specs.Step.{decide, has_open}
 use Rattle.wm_model.proofs.Families.{Related, related}
 use Rattle.wm_model.proofs.Lawful.Nets.{told_tells}
 use Rattle.wm_model.proofs.RollingLine.{home}
+use Rattle.wm_model.proofs.Unready.{filled_kept}
 use Rattle.wm_resolve.proofs.DecidingLine.{base_sound, decide_to, found_same, parent_sound, tell_sides}
 use Rattle.wm_resolve.proofs.Keyed.{IsLaid, laid_keyed, own_laid}
 use Rattle.wm_resolve.proofs.Listed.{IsGiven, listing_each}
 use Rattle.wm_resolve.proofs.OpeningLine.{resolving}
-use Rattle.wm_resolve.proofs.Staging.{filled_kept, restorable_told}
+use Rattle.wm_resolve.proofs.Staging.{restorable_told}
 use Rattle.wm_resolve.specs.Deciding.{Decides, resolve_to}
 use Rattle.wm_resolve.specs.Telling.{TellSides}
 
@@ -61,7 +63,7 @@ real_ready tables (e ∷ es) c y real is = by_told (told es c) (covers e c) refl
     by_told : (o : Option Told) (b : Bool) → covers e c ≡ b → (o ≡ Some y → is_ready tables c.table ≡ true) → option_or o (then_some b (told_of e)) ≡ Some y → is_ready tables c.table ≡ true
     by_told (Some x) b here rest e = rest e
     by_told None true here rest same =
-        subst (λ n. is_ready tables n ≡ true) (eqb-true e.table c.table (both (e.table == c.table) _ (both (is_of c.table c.key e) _ here).0).0) (All-head (IsReal tables) e es real).on
+        subst (λ n. is_ready tables n ≡ true) (eqb-true e.table c.table (and_parts (e.table == c.table) _ (and_parts (is_of c.table c.key e) _ here).0).0) (All-head (IsReal tables) e es real).on
     by_told None false here rest e = absurd (cc)
 
 module _ (rs : List Stored) (xs : List Session) (m : ℕ) (a b : Space) (s : State) (w : Workspace) (st : StandsAt rs xs m s) (r : Related rs a b s w) where
@@ -108,8 +110,8 @@ module _ (rs : List Stored) (xs : List Session) (m : ℕ) (a b : Space) (s : Sta
 
     ended : nat_le x.1.till END ≡ true
     ended =
-        let over = both (nat_lt last.laid.piece.cells.from last.laid.piece.cells.till && nat_le last.laid.piece.cells.till END) _ last.laid.cells in
-        by_numbers contested.last x.1.till last.laid.piece.cells.till contested.till last.laid.till (both (nat_lt last.laid.piece.cells.from last.laid.piece.cells.till) (nat_le last.laid.piece.cells.till END) over.0).1
+        let over = and_parts (nat_lt last.laid.piece.cells.from last.laid.piece.cells.till && nat_le last.laid.piece.cells.till END) _ last.laid.cells in
+        by_numbers contested.last x.1.till last.laid.piece.cells.till contested.till last.laid.till (and_parts (nat_lt last.laid.piece.cells.from last.laid.piece.cells.till) (nat_le last.laid.piece.cells.till END) over.0).1
       where
         by_numbers : (t till end : ℕ) → t + 1 ≡ till → nat_lt t end ≡ true → nat_le end END ≡ true → nat_le till END ≡ true
         by_numbers t till end e lt le = grind (arith, nat_tests, e, lt, le)
@@ -126,14 +128,14 @@ module _ (rs : List Stored) (xs : List Session) (m : ℕ) (a b : Space) (s : Sta
 
     copies_can : (keep : Keep) (ss : List _) → copied_on keep both_sides x ≡ Some ss → All (λ z. IsRestorable p (replayed 0 [] x.0 z)) ss
     copies_can Parent ss is =
-        subst (All (λ z. IsRestorable p (replayed 0 [] x.0 z))) (some_same (told_on both_sides.parent x.0 x.1) ss is)
+        subst (All (λ z. IsRestorable p (replayed 0 [] x.0 z))) (same_Some (told_on both_sides.parent x.0 x.1) ss is)
         (restorable_told p st.stands.rules _ both_sides.parent (tell_sides rs xs m a b s w st r).parent st.lawful.durable.entries.tells s.durable.next_stamp (parent_sound rs xs m a b s w st r) x.0 x.1 (record { ready = ready; kept = kept }))
-    copies_can Child ss is = subst (All (λ z. IsRestorable p (replayed 0 [] x.0 z))) (some_same [] ss is) (All-nil (λ z. IsRestorable p (replayed 0 [] x.0 z)))
+    copies_can Child ss is = subst (All (λ z. IsRestorable p (replayed 0 [] x.0 z))) (same_Some [] ss is) (All-nil (λ z. IsRestorable p (replayed 0 [] x.0 z)))
     copies_can Base ss is = by_base (is_some x.1.value.base) is
       where
         by_base : (t : Bool) → (if t then Some (told_on both_sides.base x.0 x.1) else None) ≡ Some ss → All (λ z. IsRestorable p (replayed 0 [] x.0 z)) ss
         by_base true e =
-            subst (All (λ z. IsRestorable p (replayed 0 [] x.0 z))) (some_same (told_on both_sides.base x.0 x.1) ss e)
+            subst (All (λ z. IsRestorable p (replayed 0 [] x.0 z))) (same_Some (told_on both_sides.base x.0 x.1) ss e)
             (restorable_told p st.stands.rules _ both_sides.base (tell_sides rs xs m a b s w st r).base st.lawful.durable.entries.tells s.durable.next_stamp (base_sound rs xs m a b s w st r) x.0 x.1 (record { ready = ready; kept = kept }))
         by_base false e = absurd (cc)
 
@@ -143,9 +145,9 @@ module _ (rs : List Stored) (xs : List Session) (m : ℕ) (a b : Space) (s : Sta
         by_copied : (o : Option (List _)) → copied_on keep both_sides x ≡ o → option_map (decision_of x (length both_sides.log)) o ≡ Some d → IsStaged p d
         by_copied None copied e = absurd (cc)
         by_copied (Some ss) copied e =
-            subst (IsStaged p) (some_same (decision_of x (length both_sides.log) ss) d e)
+            subst (IsStaged p) (same_Some (decision_of x (length both_sides.log) ss) d e)
             (record {
-              cells = and_true (nat_lt x.1.from x.1.till && nat_le x.1.till END) _ (and_true (nat_lt x.1.from x.1.till) (nat_le x.1.till END) (let real = contested.real in grind (arith, nat_tests, real)) ended) is_key;
+              cells = and_from (nat_lt x.1.from x.1.till && nat_le x.1.till END) _ (and_from (nat_lt x.1.from x.1.till) (nat_le x.1.till END) (let real = contested.real in grind (arith, nat_tests, real)) ended) is_key;
               kept = kept;
               copies = copies_can keep ss copied;
             })

@@ -1,6 +1,7 @@
 -- Conflicts are found on keys of their table, so a condition over its key columns can be judged on each.
 use Rattle.std.proofs.Common.{◌≡◌, ℕ, ◌==◌, ◌&&◌, nat_le, nat_lt, Bool, true, false, if◌then◌else◌, List, [], ◌∷◌, map, filter, Option, None, Some, is_some, refl, sym, ap, ◌∙◌, eqb-true}
 use Rattle.std.proofs.lemmas.List.Sums.{AllPass-from_list_all}
+use Rattle.std.proofs.lemmas.Bool.{and_from, and_parts}
 use Rattle.std.specs.Bool.{then_some}
 use Rattle.std.specs.List.{AllByRecursion, list_all}
 use Rattle.std.specs.Option.{option_map_or}
@@ -28,7 +29,6 @@ use Rattle.wm_spec.specs.declared.record.table.Table.{Table}
 use Rattle.wm_state.proofs.Apart.{ruled}
 use Rattle.wm_state.proofs.Laying.{key_same}
 use Rattle.wm_state.proofs.Logging.{all_at}
-use Rattle.wm_state.proofs.Tests.{and_true, both}
 use Rattle.wm_telling.specs.Telling.{clash_held, is_pending, is_unsettled, own_held, stamps_of}
 use Rattle.wm_telling.proofs.Storing.{stores_own}
 
@@ -48,22 +48,22 @@ module _ (p : Parts) where
       let stored = stores_own p a c h is in
       let rules = ruled p keeps in
       let sound = is_piece (table_of p.tables) (version_of p.versions) (row_of p.rows) rules.counters.next_stamp in
-      let all = AllPass-from_list_all sound p.pieces (both (differ collide p.pieces) (list_all sound p.pieces) rules.pieces).1 in
+      let all = AllPass-from_list_all sound p.pieces (and_parts (differ collide p.pieces) (list_all sound p.pieces) rules.pieces).1 in
       let piece = all_at (λ (x : PieceRecord). sound x ≡ true) p.pieces stored.place stored.piece all stored.there in
-      let place = both _ (nat_le stored.piece.cells.from c.time && nat_lt c.time stored.piece.cells.till) stored.covers in
-      let group = both (stored.piece.cells.table == c.table) _ place.0 in
+      let place = and_parts _ (nat_le stored.piece.cells.from c.time && nat_lt c.time stored.piece.cells.till) stored.covers in
+      let group = and_parts (stored.piece.cells.table == c.table) _ place.0 in
       record {
         piece = stored.piece;
-        cells = (both (are_cells (table_of p.tables) stored.piece.cells) _ (both (is_some (version_of p.versions stored.piece.version)) _ piece).1).0;
+        cells = (and_parts (are_cells (table_of p.tables) stored.piece.cells) _ (and_parts (is_some (version_of p.versions stored.piece.version)) _ piece).1).0;
         table = eqb-true stored.piece.cells.table c.table group.0;
         key = key_same stored.piece.cells.key c.key group.1;
-        till = (both (nat_le stored.piece.cells.from c.time) (nat_lt c.time stored.piece.cells.till) place.1).1;
+        till = (and_parts (nat_le stored.piece.cells.from c.time) (nat_lt c.time stored.piece.cells.till) place.1).1;
       }
 
   -- it is of a key of a table
   pub laid_keyed : (c : Cell) → IsLaid c → option_map_or (is_key_of c.key) (table_of p.tables c.table) false ≡ true
   laid_keyed c laid =
-      let over = both (nat_lt laid.piece.cells.from laid.piece.cells.till && nat_le laid.piece.cells.till END) (option_map_or (is_key_of laid.piece.cells.key) (table_of p.tables laid.piece.cells.table) false) laid.cells in
+      let over = and_parts (nat_lt laid.piece.cells.from laid.piece.cells.till && nat_le laid.piece.cells.till END) (option_map_or (is_key_of laid.piece.cells.key) (table_of p.tables laid.piece.cells.table) false) laid.cells in
       sym (λ i. option_map_or (is_key_of (laid.key i)) (table_of p.tables (laid.table i)) false) ∙ over.1
 
   -- ---- conflicts that are found
@@ -90,7 +90,7 @@ module _ (p : Parts) where
 
     rows_fit : (cs : List Conflict) → AllByRecursion IsKeyed (map (conflict_pair t.number) cs) → list_all (λ (c : Conflict). fits (columns_of_keys t) (key_as_row c.key)) cs ≡ true
     rows_fit [] keyed = refl
-    rows_fit (c ∷ cs) keyed = and_true (fits (columns_of_keys t) (key_as_row c.key)) _ (key_fits t c.key keyed.0) (rows_fit cs keyed.1)
+    rows_fit (c ∷ cs) keyed = and_from (fits (columns_of_keys t) (key_as_row c.key)) _ (key_fits t c.key keyed.0) (rows_fit cs keyed.1)
 
     pub keys_fit : (columns : List Column) (found : List Conflict) → columns ≡ columns_of_keys t → AreConflicts p a b t.number found → list_all (λ (c : Conflict). fits columns (key_as_row c.key)) found ≡ true
     keys_fit columns found same listing =

@@ -1,6 +1,7 @@
 -- Each stretch of a listing is over what the function gives, and there is one where it gives something.
 use Rattle.std.proofs.Common.{◌≡◌, ◌⊎◌, inl, inr, ℕ, ◌+◌, ◌-◌, ◌<◌, ◌≤◌, ◌==◌, is_some, ◌&&◌, ◌||◌, Bool, true, false, if◌then◌else◌, List, [], ◌∷◌, ◌++◌, map, Option, None, Some, refl, sym, ap, ◌∙◌, arith, eqb-true, subst}
 use Rattle.std.proofs.lemmas.List.Elements.{All-append, All-from_recursion, All-map, All-nil}
+use Rattle.std.proofs.lemmas.Bool.{and_parts}
 use Rattle.std.specs.List.{All, AllByRecursion}
 use Rattle.wm_net.specs.Groups.{Group, cell, groups, has_group, same_group}
 use Rattle.wm_net.specs.Listed.{Stretch, joined, listed, listing, onto, stretches, stretches_of}
@@ -9,7 +10,6 @@ use Rattle.wm_net.proofs.Stretching.{le_or_lt}
 use Rattle.wm_spec.proofs.Stretches.{Steady, Up, Up-cuts}
 use Rattle.wm_spec.specs.Lists.{Cell, Entry}
 use Rattle.wm_spec.specs.Stretches.{cuts}
-use Rattle.wm_state.proofs.Tests.{both}
 
 -- ---- what each is of
 
@@ -39,7 +39,7 @@ given_joined {A = A} same f low cut x ss is up steady each = by_rest ss each
     by_test : (s : Stretch A) (ss : List (Stretch A)) → IsGiven f s → AllByRecursion (IsGiven f) ss → (b : Bool) → ((cut == s.from) && same x s.value) ≡ b
         → AllByRecursion (IsGiven f) (if b then record { from = low; till = s.till; value = x } ∷ ss else record { from = low; till = cut; value = x } ∷ s ∷ ss)
     by_test s ss first rest true meets =
-        let meet : cut ≡ s.from = eqb-true cut s.from (both (cut == s.from) (same x s.value) meets).0 in
+        let meet : cut ≡ s.from = eqb-true cut s.from (and_parts (cut == s.from) (same x s.value) meets).0 in
         (record { time = low; is = is; real = omega (arith, up, meet, first.real); last = first.last; given = first.given; till = first.till }, rest)
     by_test s ss first rest false meets = (alone, (first, rest))
 

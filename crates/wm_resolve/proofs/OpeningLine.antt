@@ -1,7 +1,8 @@
 -- What BeginResolve and RollbackResolve do to each state that the records stand for.
-use Rattle.std.proofs.Common.{◌≡◌, ℕ, ◌<◌, ◌==◌, Bool, arith, true, false, cond, if◌then◌else◌, List, [], Option, Some, None, refl, sym, ap, ◌∙◌}
+use Rattle.std.proofs.Common.{◌≡◌, ℕ, ◌<◌, ◌==◌, Bool, true, false, cond, if◌then◌else◌, List, [], Option, Some, None, refl, sym, ap, ◌∙◌}
 use Rattle.std.specs.List.{find}
 use Rattle.std.specs.Str.{bytes_eq}
+use Rattle.wm_base.proofs.Plain.{nonzero}
 use Rattle.wm_base.specs.declared.refusal.Refusal.{Refusal as Fault}
 use Rattle.wm_graph.specs.Parts.{parts_of}
 use Rattle.wm_graph.specs.Rules.{keep_rules}
@@ -46,11 +47,8 @@ begins rs xs m session workspace a o s names st child is =
     let w = h.workspace in
     rw (h.named)
     (ap (λ n. cond (n == 0) (s, no_parent workspace) (unless (resolving_fault s w) s (set_of session (settings.Begin n) s, Fine))) h.is.number
-    ∙ ap (λ b. cond b (s, no_parent workspace) (unless (resolving_fault s w) s (set_of session (settings.Begin a.number) s, Fine))) (above a.number child)
+    ∙ ap (λ b. cond b (s, no_parent workspace) (unless (resolving_fault s w) s (set_of session (settings.Begin a.number) s, Fine))) (nonzero a.number child)
     ∙ ap (λ f. unless f s (set_of session (settings.Begin a.number) s, Fine)) (resolving_same (parts_of rs) a s w h.is ∙ ap (λ ys. resolving_refusal ys a) (sym st.sessions_are) ∙ is))
-  where
-    above : (n : ℕ) → 0 < n → (n == 0) ≡ false
-    above n lt = grind (arith, lt)
 
 pub begin_open : (rs : List Stored) (xs : List Session) (m : ℕ) (session : Session) (workspace : List ℕ) (a : Space) (refusal : Fault) → NamesSpace rs workspace a → 0 < a.number → resolving_refusal xs a ≡ Some refusal
     → Does rs xs m [] Stay (Refused refusal) (begin_resolve session workspace)

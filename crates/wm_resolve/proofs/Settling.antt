@@ -4,6 +4,7 @@ use Rattle.std.proofs.lemmas.Bool.Decides.{nat_tests}
 use Rattle.std.proofs.lemmas.List.{length-map}
 use Rattle.std.proofs.lemmas.List.Elements.{All-head, All-tail, All-weaker}
 use Rattle.std.proofs.lemmas.List.Sums.{list_all-from_AllPass}
+use Rattle.std.proofs.lemmas.Bool.{and_from, and_parts}
 use Rattle.std.specs.Bool.{then_some}
 use Rattle.std.specs.List.{All, list_all}
 use Rattle.std.specs.Option.{option_map_or, option_or}
@@ -38,7 +39,6 @@ use Rattle.wm_state.specs.declared.edit.NewEntry.{NewEntry}
 use Rattle.wm_state.specs.declared.edit.NewMark.{NewMark}
 use Rattle.wm_state.proofs.Laying.{key_itself}
 use Rattle.wm_state.proofs.Logging.{all_at}
-use Rattle.wm_state.proofs.Tests.{and_true, both}
 use Rattle.wm_settled.proofs.SettledBehind.{settles_behind}
 use Rattle.wm_resolve.proofs.Listed.{nothing_given}
 use Rattle.wm_resolve.specs.Committed.{commit_edits}
@@ -71,7 +71,7 @@ module _ (p : Parts) (ds : List Decision) (staged : All (IsStaged p) ds) where
       record {
         restorable = record { given = here.given; ready = here.ready; well = here.well; kept = here.kept; copied = here.copied };
         some = copy.some;
-        till = ended e.till d.till copy.till (both (nat_lt d.from d.till) (nat_le d.till END) (both (nat_lt d.from d.till && nat_le d.till END) _ can.cells).0).1;
+        till = ended e.till d.till copy.till (and_parts (nat_lt d.from d.till) (nat_le d.till END) (and_parts (nat_lt d.from d.till && nat_le d.till END) _ can.cells).0).1;
         by_user = copy.by_user;
       }
 
@@ -110,11 +110,11 @@ module _ (p : Parts) (ds : List Decision) (staged : All (IsStaged p) ds) where
   marked m mark =
       let d = mark.decision in
       let can = all_at (IsStaged p) ds mark.place d staged mark.there in
-      let cells = both (nat_lt d.from d.till && nat_le d.till END) (option_map_or (is_key_of d.key) (table_of p.tables d.table) false) can.cells in
+      let cells = and_parts (nat_lt d.from d.till && nat_le d.till END) (option_map_or (is_key_of d.key) (table_of p.tables d.table) false) can.cells in
       record {
-        cells = and_true (nat_lt m.from m.till && nat_le m.till END) _
-            (and_true (nat_lt m.from m.till) (nat_le m.till END) (let some = mark.some in grind (arith, nat_tests, some))
-            (let end = ended m.till d.till mark.till (both (nat_lt d.from d.till) (nat_le d.till END) cells.0).1 in grind (arith, nat_tests, end)))
+        cells = and_from (nat_lt m.from m.till && nat_le m.till END) _
+            (and_from (nat_lt m.from m.till) (nat_le m.till END) (let some = mark.some in grind (arith, nat_tests, some))
+            (let end = ended m.till d.till mark.till (and_parts (nat_lt d.from d.till) (nat_le d.till END) cells.0).1 in grind (arith, nat_tests, end)))
             ((λ i. option_map_or (is_key_of (mark.key i)) (table_of p.tables (mark.table i)) false) ∙ cells.1);
         kept = ap (list_all can_keep) mark.key ∙ can.kept;
       }
@@ -123,12 +123,12 @@ module _ (p : Parts) (ds : List Decision) (staged : All (IsStaged p) ds) where
     cells_can : (xs : List NewMark) → All CanMark (map (settled_by 0) xs) → list_all (λ (m : NewMark). are_cells (table_of p.tables) (cells_in m)) xs ≡ true
     cells_can [] all = refl
     cells_can (x ∷ xs) all =
-        and_true (are_cells (table_of p.tables) (cells_in x)) _ (All-head CanMark (settled_by 0 x) (map (settled_by 0) xs) all).cells (cells_can xs (All-tail CanMark (settled_by 0 x) (map (settled_by 0) xs) all))
+        and_from (are_cells (table_of p.tables) (cells_in x)) _ (All-head CanMark (settled_by 0 x) (map (settled_by 0) xs) all).cells (cells_can xs (All-tail CanMark (settled_by 0 x) (map (settled_by 0) xs) all))
 
     keys_can : (xs : List NewMark) → All CanMark (map (settled_by 0) xs) → list_all (λ (m : NewMark). list_all can_keep m.key) xs ≡ true
     keys_can [] all = refl
     keys_can (x ∷ xs) all =
-        and_true (list_all can_keep x.key) _ (All-head CanMark (settled_by 0 x) (map (settled_by 0) xs) all).kept (keys_can xs (All-tail CanMark (settled_by 0 x) (map (settled_by 0) xs) all))
+        and_from (list_all can_keep x.key) _ (All-head CanMark (settled_by 0 x) (map (settled_by 0) xs) all).kept (keys_can xs (All-tail CanMark (settled_by 0 x) (map (settled_by 0) xs) all))
 
     each : All CanMark (map (settled_by 0) ms)
     each = subst (All CanMark) (sym are) (All-weaker (IsMark ds) CanMark marked (marks_of 0 ds) (marks_decided 0 ds))
@@ -139,9 +139,9 @@ module _ (p : Parts) (ds : List Decision) (staged : All (IsStaged p) ds) where
         here : covers (cells_decided d) (cell (record { table = d.table; key = d.key }) d.from) ≡ true
         here =
             let staged_d = All-head (IsStaged p) d rest (subst (All (IsStaged p)) is staged) in
-            let real = both (nat_lt d.from d.till && nat_le d.till END) _ staged_d.cells in
-            and_true _ (nat_le d.from d.from && nat_lt d.from d.till) (and_true (d.table == d.table) _ (eq-eqb d.table d.table refl) (key_itself d.key))
-            (and_true (nat_le d.from d.from) (nat_lt d.from d.till) (grind arith) (both (nat_lt d.from d.till) (nat_le d.till END) real.0).0)
+            let real = and_parts (nat_lt d.from d.till && nat_le d.till END) _ staged_d.cells in
+            and_from _ (nat_le d.from d.from && nat_lt d.from d.till) (and_from (d.table == d.table) _ (eq-eqb d.table d.table refl) (key_itself d.key))
+            (and_from (nat_le d.from d.from) (nat_lt d.from d.till) (grind arith) (and_parts (nat_lt d.from d.till) (nat_le d.till END) real.0).0)
 
         placed_some : (o : Option ℕ) (b : Bool) → b ≡ true → option_or (option_map (λ (k : ℕ). k + 1) o) (then_some b 0) ≡ None → ⊥
         placed_some (Some k) b e none = cc

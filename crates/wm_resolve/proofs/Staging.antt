@@ -1,17 +1,15 @@
 -- In a lawful state what ResolveConflicts decides can be committed.
-use Rattle.std.proofs.Common.{◌≡◌, ℕ, suc, ◌==◌, ◌&&◌, ◌||◌, nat_lt, Bool, true, false, if◌then◌else◌, List, [], ◌∷◌, ◌++◌, map, Option, None, Some, option_map, refl, sym, ap, ◌∙◌, subst, arith}
+use Rattle.std.proofs.Common.{◌≡◌, ℕ, ◌==◌, ◌&&◌, ◌||◌, nat_lt, Bool, true, false, if◌then◌else◌, List, [], ◌∷◌, ◌++◌, map, Option, None, Some, option_map, refl, sym, ap, ◌∙◌, subst, arith}
 use Rattle.std.proofs.lemmas.List.Elements.{All-cons, All-head, All-nil, All-tail}
+use Rattle.std.proofs.lemmas.Bool.{and_from, and_parts}
+use Rattle.std.proofs.lemmas.Option.{same_Some}
 use Rattle.std.specs.Bool.{then_some}
 use Rattle.std.specs.List.{All, AllByRecursion, list_all}
 use Rattle.std.specs.Option.{option_map_or, option_or}
-use Rattle.wm_base.specs.declared.row.Row.{Row}
-use Rattle.wm_base.specs.declared.value.Value.{Value}
-use Rattle.wm_base.specs.declared.value.Value.TheVariants.{Null, Num, Text, Time, Span}
 use Rattle.wm_decided.specs.Deciding.{told_on}
 use Rattle.wm_decided.specs.Staged.{IsRestorable}
 use Rattle.wm_graph.specs.Parts.{Parts, table_of}
 use Rattle.wm_graph.specs.Rules.{keep_rules}
-use Rattle.wm_making.specs.Rows.{is_filled}
 use Rattle.wm_net.specs.Conflicts.{Stamps}
 use Rattle.wm_net.specs.Groups.{Group, cell, of_cell, same_group}
 use Rattle.wm_net.specs.Listed.{Block, IsApart, IsJoined, Ordered, Stretch, blocks_listed, value_at, within}
@@ -22,64 +20,20 @@ use Rattle.wm_net.proofs.Unique.{IsJoined-stretches}
 use Rattle.wm_period.specs.Pieces.{Held}
 use Rattle.wm_spec.specs.Lists.{Cell, Entry, Told, told}
 use Rattle.wm_spec.specs.declared.record.counters.Counters.{Counters}
-use Rattle.wm_spec.specs.declared.record.piece.PieceRecord.{PieceRecord}
 use Rattle.wm_state.specs.Drafts.{IsCopied, can_keep, can_keep_entry}
 use Rattle.wm_state.specs.Entries.{is_well}
-use Rattle.wm_state.specs.Standing.{covers_at, held_by, held_of, in_cells, is_ready, newest_first, seen, seen_at, stored_at}
+use Rattle.wm_state.specs.Standing.{held_of, is_ready, newest_first, seen}
 use Rattle.wm_state.proofs.Apart.{ruled}
-use Rattle.wm_state.proofs.Tests.{and_true, both}
 use Rattle.wm_telling.specs.Telling.{IsHeldListing, replayed_by, same_held, told_by}
-use Rattle.wm_telling.proofs.Beside.{HasRowOf, some_same, told_again}
+use Rattle.wm_telling.proofs.Beside.{HasRowOf, told_again}
 use Rattle.wm_telling.proofs.Replaying.{listed_copied, listed_old}
-use Rattle.wm_telling.proofs.Storing.{IsStored, Stores}
+use Rattle.wm_telling.proofs.Storing.{IsStored, Stores, seen_stored}
 use Rattle.wm_model.specs.Lawful.{Each, IsSound, is_full_row}
 use Rattle.wm_model.proofs.Lawful.Nets.{told_tells}
+use Rattle.wm_model.proofs.Unready.{row_kept}
 use Rattle.wm_resolve.proofs.Listed.{IsGiven, given_stretches}
 use Rattle.wm_resolve.proofs.ToldOn.{ends, right, said, steady, up}
 use Rattle.wm_resolve.specs.Telling.{TellsList}
-
--- ---- texts
-
--- what is filled can be kept
-same_test : (v : Value) → can_keep v ≡ is_filled v
-same_test Null = refl
-same_test (Num n) = refl
-same_test (Text t) = refl
-same_test (Time i) = refl
-same_test (Span p) = refl
-
-pub filled_kept : (vs : List Value) → list_all is_filled vs ≡ true → list_all can_keep vs ≡ true
-filled_kept [] all = refl
-filled_kept (v ∷ vs) all =
-    let h = both (is_filled v) (list_all is_filled vs) all in and_true (can_keep v) (list_all can_keep vs) (same_test v ∙ h.0) (filled_kept vs h.1)
-
-row_kept : (o : Option Row) → option_map_or is_full_row o true ≡ true → option_map_or (λ (row : Row). list_all can_keep row.values) o true ≡ true
-row_kept None full = refl
-row_kept (Some row) full = filled_kept row.values full
-
--- ---- what is stored
-
-stored_there : (pieces : List PieceRecord) (version : ℕ) (c : Cell) (h : Held) → stored_at pieces version c ≡ Some h → IsStored pieces c h
-stored_there [] version c h e = absurd (cc)
-stored_there (x ∷ xs) version c h e = by_test (covers_at x version c) refl (stored_there xs version c h) e
-  where
-    behind : IsStored xs c h → IsStored (x ∷ xs) c h
-    behind s = record { piece = s.piece; place = suc s.place; there = s.there; covers = s.covers; says = s.says }
-
-    by_test : (b : Bool) → covers_at x version c ≡ b → (stored_at xs version c ≡ Some h → IsStored xs c h) → option_or (then_some b (held_by x)) (stored_at xs version c) ≡ Some h → IsStored (x ∷ xs) c h
-    by_test true is rest k = record { piece = x; place = 0; there = refl; covers = (both (x.version == version) (in_cells x.cells c) is).1; says = some_same (held_by x) h k }
-    by_test false is rest k = behind (rest k)
-
-seen_stored : (pieces : List PieceRecord) (nodes : _) (version : ℕ) (c : Cell) (h : Held) → seen_at pieces nodes version c ≡ Some h → IsStored pieces c h
-seen_stored pieces [] version c h e = absurd (cc)
-seen_stored pieces (x ∷ older) version c h e =
-    by_test (x.number == version) (stored_at pieces version c) refl e (seen_stored pieces older x.parent c h) (seen_stored pieces older version c h)
-  where
-    by_test : (b : Bool) (o : Option Held) → stored_at pieces version c ≡ o → (if b then option_or o (seen_at pieces older x.parent c) else seen_at pieces older version c) ≡ Some h
-        → (seen_at pieces older x.parent c ≡ Some h → IsStored pieces c h) → (seen_at pieces older version c ≡ Some h → IsStored pieces c h) → IsStored pieces c h
-    by_test true (Some k) is given under along = stored_there pieces version c h (is ∙ given)
-    by_test true None is given under along = under given
-    by_test false o is given under along = along given
 
 -- ---- copies
 
@@ -177,7 +131,7 @@ module _ (p : Parts) (rules : keep_rules p ≡ true) (version : ℕ) (es : List 
   again z = replayed 0 [] g z
 
   told_row : (x : Told) (t : ℕ) → said p version es tells g s t ≡ Some x → told_by p (held_of x) ≡ x
-  told_row x t is = some_same (told_by p (held_of x)) x (told_again p (Some x) (λ y same row has. subst (λ (z : Told). HasRowOf p z) (some_same x y same) here row has))
+  told_row x t is = same_Some (told_by p (held_of x)) x (told_again p (Some x) (λ y same row has. subst (λ (z : Told). HasRowOf p z) (same_Some x y same) here row has))
     where
       by_test : (b : Bool) → (if b then told es (cell g t) else None) ≡ Some x → told es (cell g t) ≡ Some x
       by_test true e = e
@@ -193,11 +147,11 @@ module _ (p : Parts) (rules : keep_rules p ≡ true) (version : ℕ) (es : List 
 
   ready_all : (ss : List (Stretch Told)) → list_all (λ (e : Entry). is_ready p.tables e.table) (map again ss) ≡ true
   ready_all [] = refl
-  ready_all (z ∷ ss) = and_true (is_ready p.tables g.table) _ key.ready (ready_all ss)
+  ready_all (z ∷ ss) = and_from (is_ready p.tables g.table) _ key.ready (ready_all ss)
 
   kept_all : (ss : List (Stretch Told)) → AllByRecursion (IsGiven (said p version es tells g s)) ss → list_all can_keep_entry (map again ss) ≡ true
   kept_all [] all = refl
-  kept_all (z ∷ ss) all = and_true (can_keep_entry (again z)) _ (and_true (list_all can_keep g.key) _ key.kept (row_kept z.value.row (full all.0.time all.0.is))) (kept_all ss all.1)
+  kept_all (z ∷ ss) all = and_from (can_keep_entry (again z)) _ (and_from (list_all can_keep g.key) _ key.kept (row_kept z.value.row (full all.0.time all.0.is))) (kept_all ss all.1)
     where
       by_test : (t : ℕ) (b : Bool) → (if b then told es (cell g t) else None) ≡ Some z.value → told es (cell g t) ≡ Some z.value
       by_test t true e = e
@@ -210,9 +164,9 @@ module _ (p : Parts) (rules : keep_rules p ≡ true) (version : ℕ) (es : List 
       → list_all can_keep_entry (map again ss) ≡ true → All (IsCopied p) (map again ss) → All (λ (z : Stretch Told). IsRestorable p (again z)) ss
   combined k [] one stamps well kept copied = All-nil (λ (z : Stretch Told). IsRestorable p (again z))
   combined k (z ∷ ss) one stamps well kept copied =
-      let s1 = both (nat_lt z.value.stamp k.next_stamp) _ stamps in
-      let w1 = both (is_well (table_of p.tables) (again z)) _ well in
-      let k1 = both (can_keep_entry (again z)) _ kept in
+      let s1 = and_parts (nat_lt z.value.stamp k.next_stamp) _ stamps in
+      let w1 = and_parts (is_well (table_of p.tables) (again z)) _ well in
+      let k1 = and_parts (can_keep_entry (again z)) _ kept in
       All-cons (λ (y : Stretch Told). IsRestorable p (again y)) z ss
       (record {
         given = λ c same. ap (λ (x : Counters). nat_lt z.value.stamp x.next_stamp) (first c k (sym same ∙ one)) ∙ s1.0;

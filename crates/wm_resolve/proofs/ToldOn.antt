@@ -1,6 +1,7 @@
 -- What is copied of the pieces that a version shows is what its list says.
 use Rattle.std.proofs.Common.{◌≡◌, ℕ, ◌<◌, ◌≤◌, Bool, true, false, if◌then◌else◌, List, Option, None, Some, option_map, refl, sym, ap, ◌∙◌, arith, eqb-true, eq-eqb, ◌⊎◌, inl, inr, subst}
 use Rattle.std.proofs.lemmas.Bool.Decides.{nat_tests}
+use Rattle.std.proofs.lemmas.Option.{same_Some}
 use Rattle.std.specs.Bool.{then_some}
 use Rattle.wm_base.specs.declared.instant.TheConstants.{END}
 use Rattle.wm_graph.specs.Parts.{Parts}
@@ -20,7 +21,7 @@ use Rattle.wm_spec.specs.Lists.{Entry, Told, told}
 use Rattle.wm_spec.specs.Stretches.{cut_in, cuts}
 use Rattle.wm_state.specs.Standing.{held_of, seen}
 use Rattle.wm_telling.specs.Telling.{told_by}
-use Rattle.wm_telling.proofs.Beside.{some_same, told_again}
+use Rattle.wm_telling.proofs.Beside.{told_again}
 use Rattle.wm_resolve.specs.Copying.{AreCopies, SayOne}
 use Rattle.wm_resolve.specs.Telling.{TellsList}
 
@@ -74,7 +75,7 @@ module _ (p : Parts) (version : ℕ) (es : List Entry) (tells : TellsList p vers
         of_told : (o : Option Told) → told es (cell g t) ≡ o → option_map held_of o ≡ Some x → x ≡ held_of (tells.tells x.stamp.number)
         of_told None at e = absurd (cc)
         of_told (Some y) at e =
-            let same : held_of y ≡ x = some_same (held_of y) x e in
+            let same : held_of y ≡ x = same_Some (held_of y) x e in
             sym same ∙ ap held_of (stamped_told tells.tells es (cell g t) y tells.stamped at) ∙ ap (λ (h : Held). held_of (tells.tells h.stamp.number)) same
 
         nothing : (o : Option Held) → o ≡ None → o ≡ Some x → x ≡ held_of (tells.tells x.stamp.number)

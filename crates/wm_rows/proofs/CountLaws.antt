@@ -4,6 +4,7 @@ use Rattle.std.proofs.lemmas.Bool.{cases_lt, lt-ltb, le-ltb}
 use Rattle.std.proofs.lemmas.Bool.Decides.{nat_tests}
 use Rattle.std.proofs.lemmas.Cmp.{eq_by_cmp_equiv}
 use Rattle.std.proofs.lemmas.Map.Views.{Contains-keys_from_lookup, IsSome-lookup_from_Contains, tells_apart}
+use Rattle.std.proofs.lemmas.Option.{same_Some}
 use Rattle.std.specs.Bool.{then_some}
 use Rattle.std.specs.List.{Contains}
 use Rattle.std.specs.List.Sorted.{IsStrictlySortedBy}
@@ -57,13 +58,10 @@ full_written : (old new : Layers) (version : ℕ) (row : RowKey) (pieces : List 
     → (v : ℕ) (q : RowKey) (ps : List Piece) → group_of new v q ≡ Some ps → HasTime ps
 full_written old new version row pieces full time groups v q ps there = by_test (eqb version v && is_same row q) (groups v q)
   where
-    same_pieces : (a b : List Piece) → Some a ≡ Some b → a ≡ b
-    same_pieces a b e = cc
-
     by_test : (b : Bool) → group_of new v q ≡ cond b (Some pieces) (group_of old v q) → HasTime ps
     by_test true is =
         let P : List Piece → Type 0 = λ l. (t : ℕ) × IsSome (held_at l t) in
-        subst P (same_pieces pieces ps (sym is ∙ there)) time
+        subst P (same_Some pieces ps (sym is ∙ there)) time
     by_test false is = full v q ps (sym is ∙ there)
 
 -- a version that stores the row already is not counted again

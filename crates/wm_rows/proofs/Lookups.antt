@@ -1,5 +1,5 @@
 -- Rows looked up.
-use Rattle.std.proofs.Common.{◌≡◌, true, false, cond, ◌&&◌, eqb, List, ◌∷◌, Some, None, refl, ap, ◌∙◌, ◌⊎◌, inl, inr}
+use Rattle.std.proofs.Common.{◌≡◌, true, false, cond, ◌&&◌, eqb, List, ◌∷◌, Some, None, ap, ◌∙◌, ◌⊎◌, inl, inr, sym}
 use Rattle.std.proofs.lemmas.Bool.{cases_Bool}
 use Rattle.std.proofs.lemmas.Cmp.{eq_by_cmp_equiv, tied_itself}
 use Rattle.std.proofs.lemmas.Map.{lookup-none}
@@ -7,12 +7,10 @@ use Rattle.std.proofs.lemmas.Map.Entries.{none_past_head}
 use Rattle.std.proofs.lemmas.Map.Keys.{IsDistinct-from_sorted}
 use Rattle.std.proofs.lemmas.Map.Lookups.{exact_unsigned, CmpEqualImpliesEq}
 use Rattle.std.specs.BTreeMap.{is_at}
-use Rattle.std.specs.Cmp.{Equal-is}
+use Rattle.std.specs.Cmp.{Equal-is, tied_then}
 use Rattle.std.specs.List.Sorted.{IsStrictlySortedBy}
 use Rattle.std.specs.Map.{keys_of}
-use Rattle.std.specs.Ordering.{nat_cmp, ordering_then, is_eq}
-use Rattle.std.specs.declared.cmp.Ordering.{Ordering}
-use Rattle.std.specs.declared.cmp.Ordering.TheVariants.{Less, Equal, Greater}
+use Rattle.std.specs.Ordering.{nat_cmp, is_eq}
 use Rattle.wm_base.specs.Key.{key_order}
 use Rattle.wm_base.specs.Orders.{both_equal, key_order-equal}
 use Rattle.wm_period.specs.declared.piece.Piece.{Piece}
@@ -59,11 +57,6 @@ group_in-past row pieces rest order =
     lookup-none (is_at (row_order row)) rest
     (none_past_head (eq_by_cmp_equiv row_order_total) row (row, pieces) rest (IsDistinct-from_sorted row_order (keys_of ((row, pieces) ∷ rest)) order) (is_same-itself row))
 
-is_eq-then : (a b : Ordering) → is_eq (ordering_then a b) ≡ (is_eq a && is_eq b)
-is_eq-then Less b = refl
-is_eq-then Equal b = refl
-is_eq-then Greater b = refl
-
 -- two rows are one where their tables and their keys are
 pub is_same-parts : (p q : RowKey) → is_same p q ≡ (eqb p.table q.table && is_eq (key_order p.key q.key))
-is_same-parts p q = is_eq-then (nat_cmp p.table q.table) (key_order p.key q.key) ∙ ap (λ b. b && is_eq (key_order p.key q.key)) (is_at-number p.table q.table)
+is_same-parts p q = sym (tied_then (nat_cmp p.table q.table) (key_order p.key q.key)) ∙ ap (λ b. b && is_eq (key_order p.key q.key)) (is_at-number p.table q.table)

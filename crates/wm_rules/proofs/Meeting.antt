@@ -1,9 +1,9 @@
 -- Pieces collide, and touches meet, where they overlap though their order says that they may not.
-use Rattle.std.proofs.Common.{◌≡◌, ℕ, ◌==◌, Bool, true, false, ◌&&◌, nat_lt, List, refl, ap, ◌∙◌, arith}
+use Rattle.std.proofs.Common.{◌≡◌, ℕ, ◌==◌, Bool, true, false, ◌&&◌, nat_lt, List, refl, ap, ◌∙◌, arith, sym}
 use Rattle.std.proofs.lemmas.Bool.Decides.{nat_tests}
+use Rattle.std.specs.Cmp.{tied_then}
 use Rattle.std.specs.Ordering.{nat_cmp, on, then_cmp, is_eq, ordering_then}
 use Rattle.std.specs.declared.cmp.Ordering.{Ordering}
-use Rattle.std.specs.declared.cmp.Ordering.TheVariants.{Less, Equal, Greater}
 use Rattle.wm_base.specs.Key.{key_order}
 use Rattle.wm_cells.specs.Order.{cells_order, overlap}
 use Rattle.wm_graph.specs.Rules.{differ, collide, meet}
@@ -19,17 +19,12 @@ piece_order = then_cmp (on (λ (x : PieceRecord). x.version) nat_cmp) (on (λ (x
 abbrev pub trace_order : Trace → Trace → Ordering
 trace_order = then_cmp (on (λ (x : Trace). x.space) nat_cmp) (then_cmp (on (λ (x : Trace). x.place) nat_cmp) (on (λ (x : Trace). x.cells) cells_order))
 
-equal_both : (o p : Ordering) → is_eq (ordering_then o p) ≡ (is_eq o && is_eq p)
-equal_both Less p = refl
-equal_both Equal p = refl
-equal_both Greater p = refl
-
 same_nat : (m n : ℕ) → is_eq (nat_cmp m n) ≡ (m == n)
 same_nat m n = grind (arith, nat_tests)
 
 -- a number and what follows it
 number_first : (m n : ℕ) (o : Ordering) (b : Bool) → is_eq o ≡ b → is_eq (ordering_then (nat_cmp m n) o) ≡ ((m == n) && b)
-number_first m n o b e = equal_both (nat_cmp m n) o ∙ rw (same_nat m n, e) refl
+number_first m n o b e = sym (tied_then (nat_cmp m n) o) ∙ rw (same_nat m n, e) refl
 
 same_cells : (c d : CellRange) → is_eq (cells_order c d) ≡ ((c.table == d.table) && is_eq (key_order c.key d.key))
 same_cells c d = number_first c.table d.table (key_order c.key d.key) (is_eq (key_order c.key d.key)) refl

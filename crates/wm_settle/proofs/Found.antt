@@ -1,6 +1,6 @@
 -- The marks that are found for a new one are all that may share a cell with it, so what they leave of it is what it says newly.
 use Rattle.std.proofs.Common.{◌≡◌, ℕ, ◌==◌, ◌&&◌, ◌||◌, nat_le, nat_lt, Bool, true, false, cond, List, [], ◌∷◌, map, Option, None, Some, refl, sym, ap, ◌∙◌}
-use Rattle.std.proofs.lemmas.Bool.{eq-eqb, eqb-true}
+use Rattle.std.proofs.lemmas.Bool.{eq-eqb, eqb-true, and_parts}
 use Rattle.std.specs.List.{filter, filter_map, flat_map, list_all}
 use Rattle.std.specs.Ordering.{is_eq}
 use Rattle.wm_base.specs.Key.{key_order}
@@ -19,7 +19,6 @@ use Rattle.wm_state.specs.Touching.{drawn_all, drawn_as}
 use Rattle.wm_state.specs.declared.edit.NewMark.{NewMark}
 use Rattle.wm_state.proofs.Apart.{ruled}
 use Rattle.wm_state.proofs.Laying.{key_same}
-use Rattle.wm_state.proofs.Tests.{both}
 use Rattle.wm_written.proofs.Touching.{view-apart}
 use Rattle.wm_settled.specs.Settling.{AreNewest, greater}
 use Rattle.wm_settled.proofs.Cutting.{IsLeft, is_covered, left_so, newest_all}
@@ -49,7 +48,7 @@ pub marks_apart : (n : ℕ) (ss : List Stored) → keep_rules (parts_of ss) ≡ 
 marks_apart n ss rules =
     let p : Parts = parts_of ss in
     ap (λ (xs : List PieceRecord). differ collide xs) (marks_seen n ss)
-    ∙ view-apart n p.marks (both (differ meet p.marks) (list_all (is_trace (table_of p.tables) (space_of p.spaces)) p.marks) (ruled p rules).marks).0
+    ∙ view-apart n p.marks (and_parts (differ meet p.marks) (list_all (is_trace (table_of p.tables) (space_of p.spaces)) p.marks) (ruled p rules).marks).0
 
 -- ---- those of a table and a key
 
@@ -91,8 +90,8 @@ all_there m (x ∷ xs) w c is = by_key (at_key m.table m.key x) refl (all_there 
     -- the cell is of the table and the key
     there : (m.table ≡ c.table) × (m.key ≡ c.key)
     there =
-        let h = both ((m.table == c.table) && is_eq (key_order m.key c.key)) (nat_le m.period.from c.time && nat_lt c.time m.period.till) is in
-        let g = both (m.table == c.table) (is_eq (key_order m.key c.key)) h.0 in
+        let h = and_parts ((m.table == c.table) && is_eq (key_order m.key c.key)) (nat_le m.period.from c.time && nat_lt c.time m.period.till) is in
+        let g = and_parts (m.table == c.table) (is_eq (key_order m.key c.key)) h.0 in
         (eqb-true m.table c.table g.0, key_same m.key c.key g.1)
 
     away : at_key m.table m.key x ≡ false → covers_at x w c ≡ false

@@ -59,9 +59,9 @@ fn marked(
     let Made { dropped, news } = made;
     let mut changes = Changes::new(alloc);
     changes.push(put(image.id_of_counters(), Record::Counters(counters)))?;
-    let said = drop_all(&mut changes, dropped.as_slice());
+    let pushed = drop_all(&mut changes, dropped.as_slice());
     drop(dropped);
-    said?;
+    pushed?;
     put_all(&mut changes, id, news)?;
     Ok(changes)
 }

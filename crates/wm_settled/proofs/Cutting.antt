@@ -1,6 +1,8 @@
 -- What older marks of greater positions leave of new ones: what is left says what the new ones say where none of those covers the cell.
 use Rattle.std.proofs.Common.{◌≡◌, ℕ, ◌+◌, ◌==◌, ◌&&◌, ◌||◌, nat_le, nat_lt, max, Bool, true, false, not, cond, if◌then◌else◌, List, [], ◌∷◌, map, Option, None, Some, is_some, refl, sym, ap, ◌∙◌, arith}
-use Rattle.std.proofs.lemmas.Bool.{eq-eqb}
+use Rattle.std.proofs.lemmas.Bool.{eq-eqb, and_from, and_parts, not-true}
+use Rattle.std.proofs.Math.Bool.{and-false, and-true}
+use Rattle.std.proofs.lemmas.Option.{none-some}
 use Rattle.std.specs.Bool.{then_some}
 use Rattle.std.specs.List.{cons_option, flat_map, list_all, list_any}
 use Rattle.std.specs.Option.{option_or}
@@ -15,7 +17,6 @@ use Rattle.wm_state.specs.Standing.{covers_at, held_by, in_cells, marked_at, sto
 use Rattle.wm_state.specs.Touching.{drawn_all}
 use Rattle.wm_state.specs.declared.edit.NewMark.{NewMark}
 use Rattle.wm_state.proofs.Appending.{all_append}
-use Rattle.wm_state.proofs.Tests.{and_true, both, not_true}
 use Rattle.wm_written.proofs.DrawingApart.{all_over, new_apart}
 use Rattle.wm_written.proofs.DrawingHeld.{last_append, over_held}
 use Rattle.wm_written.proofs.Touched.{only-one}
@@ -30,25 +31,13 @@ is_covered xs w c = list_any (λ (x : PieceRecord). covers_at x w c) xs
 over_left : (over : PieceRecord) (xs : List PieceRecord) (w : ℕ) (c : Cell) → is_some (stored_at (flat_map (left_by over) xs) w c) ≡ (is_some (stored_at xs w c) && not (covers_at over w c))
 over_left over xs w c = by_cover (covers_at over w c) refl (over_held over xs w c)
   where
-    none_of : (b : Bool) → false ≡ (b && false)
-    none_of true = refl
-    none_of false = refl
-
-    all_of : (b : Bool) → b ≡ (b && true)
-    all_of true = refl
-    all_of false = refl
-
     by_cover : (b : Bool) → covers_at over w c ≡ b → option_or (then_some b (held_by over)) (stored_at (flat_map (left_by over) xs) w c) ≡ option_or (then_some b (held_by over)) (stored_at xs w c)
         → is_some (stored_at (flat_map (left_by over) xs) w c) ≡ (is_some (stored_at xs w c) && not b)
-    by_cover true is held = ap is_some (only-one over w c is (flat_map (left_by over) xs) (new_apart over xs)) ∙ none_of (is_some (stored_at xs w c))
-    by_cover false is held = ap is_some held ∙ all_of (is_some (stored_at xs w c))
+    by_cover true is held = ap is_some (only-one over w c is (flat_map (left_by over) xs) (new_apart over xs)) ∙ sym (and-false (is_some (stored_at xs w c)))
+    by_cover false is held = ap is_some held ∙ sym (and-true (is_some (stored_at xs w c)))
 
 pub cut-held : (others xs : List PieceRecord) (w : ℕ) (c : Cell) → is_some (stored_at (cut others xs) w c) ≡ (is_some (stored_at xs w c) && not (is_covered others w c))
-cut-held [] xs w c = all_of (is_some (stored_at xs w c))
-  where
-    all_of : (b : Bool) → b ≡ (b && true)
-    all_of true = refl
-    all_of false = refl
+cut-held [] xs w c = sym (and-true (is_some (stored_at xs w c)))
 cut-held (over ∷ others) xs w c =
     cut-held others (flat_map (left_by over) xs) w c
     ∙ ap (λ b. b && not (is_covered others w c)) (over_left over xs w c)
@@ -70,7 +59,7 @@ cut-pass test parts (over ∷ others) xs all = cut-pass test parts others (flat_
 pub last-one : (stamp : ℕ) (xs : List PieceRecord) (w : ℕ) (c : Cell) → list_all (λ (x : PieceRecord). x.stamp == stamp) xs ≡ true → past (stored_last xs w c) ≡ (if is_some (stored_at xs w c) then stamp + 1 else 0)
 last-one stamp [] w c all = refl
 last-one stamp (x ∷ xs) w c all =
-    let h = both (x.stamp == stamp) (list_all (λ (y : PieceRecord). y.stamp == stamp) xs) all in
+    let h = and_parts (x.stamp == stamp) (list_all (λ (y : PieceRecord). y.stamp == stamp) xs) all in
     by_cover (stored_last xs w c) (stored_at xs w c) (covers_at x w c) (same x.stamp h.0) (last-one stamp xs w c h.1)
   where
     same : (k : ℕ) → (k == stamp) ≡ true → k + 1 ≡ stamp + 1
@@ -143,10 +132,10 @@ pub left_so : (n place : ℕ) (old : List Trace) (m : NewMark) (found : List Pie
     → IsLeft n place old m (cut (greater m.position found) (mark_piece place m ∷ []))
 left_so n place old m found all = record {
   held = λ w c.
-      last-one m.position left w c (cut-pass (λ x. x.stamp == m.position) (λ x from till is lower some upper. is) (greater m.position found) (mark_piece place m ∷ []) (and_true (m.position == m.position) true (eq-eqb m.position m.position refl) refl))
+      last-one m.position left w c (cut-pass (λ x. x.stamp == m.position) (λ x from till is lower some upper. is) (greater m.position found) (mark_piece place m ∷ []) (and_from (m.position == m.position) true (eq-eqb m.position m.position refl) refl))
       ∙ ap (λ b. if b then m.position + 1 else 0) (cut-held (greater m.position found) (mark_piece place m ∷ []) w c)
       ∙ by_cover (in_cells (cells_in m) c) (place == w) (w == place) (is_covered (greater m.position found) w c) (marked_at old n w c) (turned place w) (λ is. all w c is ∙ covered-greater n m.position old w c);
-  pass = λ test parts is. cut-pass test parts (greater m.position found) (mark_piece place m ∷ []) (and_true (test (mark_piece place m)) true is refl);
+  pass = λ test parts is. cut-pass test parts (greater m.position found) (mark_piece place m ∷ []) (and_from (test (mark_piece place m)) true is refl);
 }
   where
     left : List PieceRecord
@@ -172,12 +161,9 @@ said_none : (ms : List NewMark) (c : Cell) → stored_at (map (mark_piece 0) ms)
 said_none [] c none = refl
 said_none (m ∷ ms) c none = by_cover (in_cells (cells_in m) c) none (said_none ms c)
   where
-    some_none : (h : Held) → Some h ≡ None → ⊥
-    some_none h e = cc
-
     by_cover : (b : Bool) → option_or (then_some b (held_by (mark_piece 0 m))) (stored_at (map (mark_piece 0) ms) 0 c) ≡ None → (stored_at (map (mark_piece 0) ms) 0 c ≡ None → said ms c ≡ 0)
         → max (if b then m.position + 1 else 0) (said ms c) ≡ 0
-    by_cover true e rest = absurd (some_none (held_by (mark_piece 0 m)) e)
+    by_cover true e rest = absurd (none-some (held_by (mark_piece 0 m)) (sym e))
     by_cover false e rest = ap (max 0) (rest e)
 
 -- what is left of each, one behind the other, says what they say
@@ -189,15 +175,15 @@ newest_all n place old left each [] apart = record { held = λ w c. none ((w == 
     none true k = refl
     none false k = refl
 newest_all n place old left each (m ∷ ms) apart =
-    let h = both (not (list_any (collide (mark_piece 0 m)) (map (mark_piece 0) ms))) (differ collide (map (mark_piece 0) ms)) apart in
+    let h = and_parts (not (list_any (collide (mark_piece 0 m)) (map (mark_piece 0) ms))) (differ collide (map (mark_piece 0) ms)) apart in
     let rest = newest_all n place old left each ms h.1 in
     record {
       held = λ w c.
           ap past (last_append (left m) (flat_map left ms) w c)
           ∙ by_said (w == place) (in_cells (cells_in m) c) (stored_last (flat_map left ms) w c) (stored_last (left m) w c) (marked_at old n w c) (m.position + 1) (said ms c) (rest.held w c) ((each m).held w c)
-          (λ is. said_none ms c (only-one (mark_piece 0 m) 0 c is (map (mark_piece 0) ms) (not_true (list_any (collide (mark_piece 0 m)) (map (mark_piece 0) ms)) h.0)));
+          (λ is. said_none ms c (only-one (mark_piece 0 m) 0 c is (map (mark_piece 0) ms) (not-true (list_any (collide (mark_piece 0 m)) (map (mark_piece 0) ms)) h.0)));
       pass = λ test parts all.
-          let g = both (test (mark_piece place m)) (list_all test (map (mark_piece place) ms)) all in
+          let g = and_parts (test (mark_piece place m)) (list_all test (map (mark_piece place) ms)) all in
           all_append test (left m) (flat_map left ms) ((each m).pass test parts g.0) (rest.pass test parts g.1);
     }
   where

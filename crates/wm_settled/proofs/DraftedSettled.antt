@@ -1,5 +1,6 @@
 -- What the batch that settles cells of a workspace makes of the records.
 use Rattle.std.proofs.Common.{◌≡◌, ℕ, true, List, [], ◌∷◌, Some, refl, sym, ap}
+use Rattle.std.proofs.lemmas.Bool.{true≢false}
 use Rattle.std.specs.declared.alloc.Global.{Global}
 use Rattle.std.specs.declared.vec.Vec.{Vec}
 use Rattle.wm_graph.specs.Parts.{Parts, parts_of, space_of}
@@ -20,7 +21,6 @@ use Rattle.wm_state.specs.declared.edit.NewMark.{NewMark}
 use Rattle.wm_state.proofs.Counting.{counts_as, counts_in, moved_well, work_grows}
 use Rattle.wm_state.proofs.Drafted.{some_edit}
 use Rattle.wm_state.proofs.RowsStay.{rows_stay}
-use Rattle.wm_state.proofs.Tests.{bool_apart}
 use Rattle.wm_state.proofs.WorkedOn.{counted_put, first_change}
 use Rattle.wm_gained.proofs.DraftedGained.{counts_moved}
 use Rattle.wm_settled.specs.Settling.{Remarked, settle_batch}
@@ -51,7 +51,7 @@ drafts_settle rs m work marks a c counters_id id ids drawn rules can_work can th
   kept = kept_settle rs counters_id id d a ms ids drawn can.kept r;
   counted = λ some. counted_put rs work counters_id c d batch at.sorted at.one once (first_change counters_id _ _) keeps refl;
   nothing = some_edit (edits.Settle a.number marks) [] batch;
-  few = λ forks. absurd (bool_apart (sym forks));
+  few = λ forks. absurd (true≢false (sym forks));
   spared = λ n more one_append. absurd (no_append n more one_append);
   turned = λ left. ap (λ (q : Parts). q.turns) (parts_after rs counters_id id c d a ms ids drawn rules settles);
 }

@@ -1,6 +1,6 @@
 -- The rules hold of the records with marks in the place of some: no stamp is given, and all else is as it was but for counters.
 use Rattle.std.proofs.Common.{◌≡◌, ℕ, ◌≤◌, ◌==◌, nat_le, nat_lt, Bool, true, false, List, [], ◌∷◌, ◌++◌, map, Some, refl, ap, ◌∙◌}
-use Rattle.std.proofs.lemmas.Bool.{eqb-true}
+use Rattle.std.proofs.lemmas.Bool.{eqb-true, and_from, and_parts, le-leb}
 use Rattle.std.specs.List.{filter, list_all}
 use Rattle.std.specs.Option.{option_map_or}
 use Rattle.wm_graph.specs.Parts.{Parts, space_of, table_of}
@@ -15,10 +15,9 @@ use Rattle.wm_state.specs.Touching.{AreMarked, drawn_all, is_unmet, trace_of}
 use Rattle.wm_state.specs.declared.edit.NewMark.{NewMark}
 use Rattle.wm_state.proofs.Apart.{Ruled, keeps_all, ruled}
 use Rattle.wm_state.proofs.Growing.{same_counters}
-use Rattle.wm_state.proofs.Keeping.{KeepSpaces-same, KeepTables-same, KeepVersions-same, are_savepoints-kept, le_of}
+use Rattle.wm_state.proofs.Keeping.{KeepSpaces-same, KeepTables-same, KeepVersions-same, are_savepoints-kept}
 use Rattle.wm_state.proofs.KeepingTurns.{are_locks-kept}
 use Rattle.wm_state.proofs.Named.{ruled_savepoints}
-use Rattle.wm_state.proofs.Tests.{and_true, both}
 use Rattle.wm_written.proofs.DrawnWell.{cells-parts}
 use Rattle.wm_written.proofs.TouchesKept.{apart-view, marked-pass}
 use Rattle.wm_written.proofs.Touching.{beside-apart, is_plain, view-apart, view-marked, view-other}
@@ -58,7 +57,7 @@ module _ (p : Parts) (old new : Counters) (a : Space) (place : ℕ) (ms : List N
 
   -- the marks of before
   pub marks_before : (differ meet p.marks ≡ true) × (list_all (is_trace (table_of p.tables) (space_of p.spaces)) p.marks ≡ true)
-  marks_before = both (differ meet p.marks) (list_all (is_trace (table_of p.tables) (space_of p.spaces)) p.marks) rule.marks
+  marks_before = and_parts (differ meet p.marks) (list_all (is_trace (table_of p.tables) (space_of p.spaces)) p.marks) rule.marks
 
   plain : list_all is_plain news ≡ true
   plain = news_plain a.number place ms p.marks news newest
@@ -85,16 +84,16 @@ module _ (p : Parts) (old new : Counters) (a : Space) (place : ℕ) (ms : List N
     where
       parts : PassesParts (λ x. is_trace (table_of p.tables) (space_of p.spaces) (trace_of a.number x))
       parts x from till is lower some upper =
-          let h = both (are_cells (table_of p.tables) x.cells) (is_given (space_of p.spaces) a.number x.version) is in
-          and_true (are_cells (table_of p.tables) (record x.cells { from = from; till = till })) (is_given (space_of p.spaces) a.number x.version) (cells-parts (table_of p.tables) x.cells from till h.0 some upper) h.1
+          let h = and_parts (are_cells (table_of p.tables) x.cells) (is_given (space_of p.spaces) a.number x.version) is in
+          and_from (are_cells (table_of p.tables) (record x.cells { from = from; till = till })) (is_given (space_of p.spaces) a.number x.version) (cells-parts (table_of p.tables) x.cells from till h.0 some upper) h.1
 
       each : (xs : List NewMark) → list_all (λ (m : NewMark). are_cells (table_of p.tables) (cells_in m)) xs ≡ true
           → list_all (λ (x : PieceRecord). is_trace (table_of p.tables) (space_of p.spaces) (trace_of a.number x)) (map (mark_piece place) xs) ≡ true
       each [] all = refl
       each (m ∷ xs) all =
-          let h = both (are_cells (table_of p.tables) (cells_in m)) (list_all (λ (k : NewMark). are_cells (table_of p.tables) (cells_in k)) xs) all in
-          and_true (is_trace (table_of p.tables) (space_of p.spaces) (trace_of a.number (mark_piece place m))) _
-          (and_true (are_cells (table_of p.tables) (cells_in m)) (is_given (space_of p.spaces) a.number place) h.0 (ap (λ o. option_map_or (λ (s : Space). nat_lt place s.next_place) o false) may.space ∙ given)) (each xs h.1)
+          let h = and_parts (are_cells (table_of p.tables) (cells_in m)) (list_all (λ (k : NewMark). are_cells (table_of p.tables) (cells_in k)) xs) all in
+          and_from (is_trace (table_of p.tables) (space_of p.spaces) (trace_of a.number (mark_piece place m))) _
+          (and_from (are_cells (table_of p.tables) (cells_in m)) (is_given (space_of p.spaces) a.number place) h.0 (ap (λ o. option_map_or (λ (s : Space). nat_lt place s.next_place) o false) may.space ∙ given)) (each xs h.1)
 
   -- ---- all rules
 
@@ -109,14 +108,14 @@ module _ (p : Parts) (old new : Counters) (a : Space) (place : ℕ) (ms : List N
       (ap (are_hists p) may.stamps ∙ ap (λ (c : Counters). are_hists p c.next_stamp) same ∙ rule.hists)
       rule.touches
       (are_locks-kept p q old.work new.work worked (KeepTables-same p q refl) (KeepSpaces-same p q refl) refl (ap (λ (c : Counters). are_locks p c.work) same ∙ rule.locks))
-      (and_true (differ meet q.marks) (list_all (is_trace (table_of p.tables) (space_of p.spaces)) q.marks) apart well)
+      (and_from (differ meet q.marks) (list_all (is_trace (table_of p.tables) (space_of p.spaces)) q.marks) apart well)
       rule.turns
     where
       same : old ≡ rule.counters
       same = same_counters p rule.counters old rule.one may.one
 
       worked : nat_le old.work new.work ≡ true
-      worked = le_of old.work new.work may.work
+      worked = le-leb old.work new.work may.work
 
       savepoints : are_savepoints p old.work ≡ true
       savepoints = ap (λ (c : Counters). are_savepoints p c.work) same ∙ rule.savepoints

@@ -1,5 +1,6 @@
 -- What marks say at a cell once new ones are drawn over them.
 use Rattle.std.proofs.Common.{◌≡◌, ℕ, ◌+◌, ◌==◌, nat_le, max, Bool, true, false, not, ◌&&◌, if◌then◌else◌, List, [], ◌∷◌, ◌++◌, map, Option, None, Some, refl, sym, ap, ◌∙◌, arith}
+use Rattle.std.proofs.lemmas.Bool.{and_parts, not-true}
 use Rattle.std.specs.Bool.{then_some}
 use Rattle.std.specs.List.{cons_option, filter, list_all, list_any}
 use Rattle.std.specs.Option.{option_or}
@@ -15,7 +16,6 @@ use Rattle.wm_state.specs.Editing.{settled_by}
 use Rattle.wm_state.specs.Standing.{covers_at, held_by, in_cells, marked_at, settled_from, stored_at}
 use Rattle.wm_state.specs.Touching.{AreMarked, drawn_all}
 use Rattle.wm_state.specs.declared.edit.NewMark.{NewMark}
-use Rattle.wm_state.proofs.Tests.{both, not_true}
 use Rattle.wm_written.proofs.Touched.{only-one}
 use Rattle.wm_written.proofs.Touching.{beside-apart, beside-held, is_plain, view-apart, view-marked, view-other}
 use Rattle.wm_settled.specs.Settling.{AreNewest, past, said}
@@ -45,9 +45,9 @@ marked-pieces (x ∷ xs) n w c =
 marked-held : (xs : List PieceRecord) (w : ℕ) (c : Cell) → differ collide xs ≡ true → marked_in xs w c ≡ past (stored_at xs w c)
 marked-held [] w c apart = refl
 marked-held (x ∷ xs) w c apart =
-    let h = both (not (list_any (collide x) xs)) (differ collide xs) apart in
+    let h = and_parts (not (list_any (collide x) xs)) (differ collide xs) apart in
     ap (max (if covers_at x w c then x.stamp + 1 else 0)) (marked-held xs w c h.1)
-    ∙ by_cover (covers_at x w c) (λ is. only-one x w c is xs (not_true (list_any (collide x) xs) h.0))
+    ∙ by_cover (covers_at x w c) (λ is. only-one x w c is xs (not-true (list_any (collide x) xs) h.0))
   where
     alone : (k : ℕ) → max k 0 ≡ k
     alone k = omega arith

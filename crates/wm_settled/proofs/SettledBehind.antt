@@ -1,5 +1,6 @@
 -- Cells can be settled behind entries that come into the workspace, where what is asked for each holds of the first records.
-use Rattle.std.proofs.Common.{◌≡◌, ℕ, ◌==◌, Bool, true, cond, List, [], ◌∷◌, map, Option, Some, refl, sym, ◌∙◌, arith}
+use Rattle.std.proofs.Common.{◌≡◌, ℕ, ◌==◌, Bool, true, cond, List, [], ◌∷◌, map, Option, Some, refl, sym, ◌∙◌}
+use Rattle.std.proofs.lemmas.Bool.{eq-eqb}
 use Rattle.std.specs.Option.{option_map}
 use Rattle.std.specs.declared.alloc.Global.{Global}
 use Rattle.std.specs.declared.vec.Vec.{Vec}
@@ -52,12 +53,9 @@ module _ (rs : List Stored) (m work n : ℕ) (entries : Vec NewEntry Global) (cs
   there_still a there =
       let w = space_there p was n a before.spaces there in
       let r = record_there q now n (with_entries (map entry_of entries.items) w.workspace) after.spaces
-      (workspace_of-changed n (with_entries (map entry_of entries.items)) (λ v. refl) was.spaces n ∙ by_test (n == n) (itself n) (workspace_of was.spaces n) w.workspace w.is.found) in
+      (workspace_of-changed n (with_entries (map entry_of entries.items)) (λ v. refl) was.spaces n ∙ by_test (n == n) (eq-eqb n n refl) (workspace_of was.spaces n) w.workspace w.is.found) in
       (r.recorded, r.is.recorded)
     where
-      itself : (k : ℕ) → (k == k) ≡ true
-      itself k = grind arith
-
       by_test : (b : Bool) → b ≡ true → (o : Option Workspace) (v : Workspace) → o ≡ Some v → cond b (option_map (with_entries (map entry_of entries.items)) o) o ≡ Some (with_entries (map entry_of entries.items) v)
       by_test b e o v found = rw (e, found) refl
 

@@ -1,6 +1,6 @@
 -- The records keep the rules and stand for the state after the batch that settles cells of a workspace.
-use Rattle.std.proofs.Common.{◌≡◌, ℕ, ◌+◌, ◌<◌, ◌≤◌, ◌==◌, ◌&&◌, nat_le, nat_lt, max, Bool, true, false, cond, if◌then◌else◌, List, [], ◌∷◌, ◌++◌, map, Some, refl, sym, ap, subst, ◌∙◌, arith}
-use Rattle.std.proofs.lemmas.Bool.{eq-eqb, eqb-true}
+use Rattle.std.proofs.Common.{◌≡◌, ℕ, ◌+◌, ◌==◌, ◌&&◌, nat_le, nat_lt, max, Bool, true, false, cond, if◌then◌else◌, List, [], ◌∷◌, ◌++◌, map, Some, refl, sym, ap, subst, ◌∙◌, arith}
+use Rattle.std.proofs.lemmas.Bool.{eq-eqb, eqb-true, and_parts, leb-true, ltb-true}
 use Rattle.std.proofs.lemmas.List.Elements.{All-cons, All-nil}
 use Rattle.std.specs.List.{All, filter, list_all}
 use Rattle.std.specs.Option.{option_map_or}
@@ -29,7 +29,6 @@ use Rattle.wm_state.specs.declared.edit.NewMark.{NewMark}
 use Rattle.wm_state.proofs.ById.{Ascend-set}
 use Rattle.wm_state.proofs.ByKind.{stored}
 use Rattle.wm_state.proofs.Planned.{AllUnder-filter, AllUnder-set, applied-append, counted}
-use Rattle.wm_state.proofs.Tests.{both}
 use Rattle.wm_written.proofs.Behind.{parts-marked}
 use Rattle.wm_written.proofs.Dropping.{dropped, dropped-set}
 use Rattle.wm_settled.specs.Settling.{Remarked, SettledIn, keeps_marks, said, settle_batch}
@@ -108,16 +107,10 @@ parts-settled ss counters_id id old new a news drawn ids at are =
 marks_real : (p : Parts) (place : ℕ) (ms : List NewMark) → list_all (λ (m : NewMark). are_cells (table_of p.tables) (cells_in m)) ms ≡ true → All IsRealMark (map (settled_by place) ms)
 marks_real p place [] all = All-nil IsRealMark
 marks_real p place (m ∷ ms) all =
-    let h = both (are_cells (table_of p.tables) (cells_in m)) (list_all (λ (k : NewMark). are_cells (table_of p.tables) (cells_in k)) ms) all in
-    let g = both (nat_lt m.period.from m.period.till && nat_le m.period.till END) (option_map_or (is_key_of m.key) (table_of p.tables m.table) false) h.0 in
-    let t = both (nat_lt m.period.from m.period.till) (nat_le m.period.till END) g.0 in
-    All-cons IsRealMark (settled_by place m) (map (settled_by place) ms) (record { some = less m.period.from m.period.till t.0; till = at_most m.period.till END t.1 }) (marks_real p place ms h.1)
-  where
-    less : (a b : ℕ) → nat_lt a b ≡ true → a < b
-    less a b e = grind (arith, e)
-
-    at_most : (a b : ℕ) → nat_le a b ≡ true → a ≤ b
-    at_most a b e = grind (arith, e)
+    let h = and_parts (are_cells (table_of p.tables) (cells_in m)) (list_all (λ (k : NewMark). are_cells (table_of p.tables) (cells_in k)) ms) all in
+    let g = and_parts (nat_lt m.period.from m.period.till && nat_le m.period.till END) (option_map_or (is_key_of m.key) (table_of p.tables m.table) false) h.0 in
+    let t = and_parts (nat_lt m.period.from m.period.till) (nat_le m.period.till END) g.0 in
+    All-cons IsRealMark (settled_by place m) (map (settled_by place) ms) (record { some = ltb-true m.period.from m.period.till t.0; till = leb-true m.period.till END t.1 }) (marks_real p place ms h.1)
 
 -- the next place is behind it
 given : (next place : ℕ) → next ≡ place + 1 → nat_lt place next ≡ true

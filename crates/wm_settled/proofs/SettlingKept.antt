@@ -1,5 +1,6 @@
 -- What the batch that settles cells puts can be kept, and the ids that it has.
 use Rattle.std.proofs.Common.{◌≡◌, ℕ, nat_lt, true, false, List, [], ◌∷◌, map, refl, ap, ◌∙◌}
+use Rattle.std.proofs.lemmas.Bool.{and_from, and_parts, lt-ltb}
 use Rattle.std.specs.List.{list_all}
 use Rattle.wm_graph.specs.Parts.{parts_of}
 use Rattle.wm_spec.specs.Records.{AreChanges, ids_differ}
@@ -15,8 +16,7 @@ use Rattle.wm_state.specs.Writes.{put_all}
 use Rattle.wm_state.specs.declared.edit.NewMark.{NewMark}
 use Rattle.wm_state.proofs.ByKind.{under_found}
 use Rattle.wm_state.proofs.RowsStay.{LeavesRows, away_append, away_dropped, away_put, row_apart}
-use Rattle.wm_state.proofs.Tests.{and_true, both}
-use Rattle.wm_written.proofs.DraftedWritten.{all_below, lt_test}
+use Rattle.wm_written.proofs.DraftedWritten.{all_below}
 use Rattle.wm_written.proofs.Ids.{ids_of-dropped}
 use Rattle.wm_written.proofs.WrittenIds.{ids-put}
 use Rattle.wm_written.proofs.WrittenKept.{drawn_kept, keeps_key, kept_dropped, kept_put}
@@ -28,12 +28,12 @@ use Rattle.wm_settled.proofs.SettlingBatch.{CountersAt}
 -- marks on keys that can be kept
 kept_marks : (n : ℕ) (xs : List PieceRecord) → list_all keeps_key xs ≡ true → list_all is_kept (map records.Mark (map (trace_of n) xs)) ≡ true
 kept_marks n [] all = refl
-kept_marks n (x ∷ xs) all = let h = both (keeps_key x) (list_all keeps_key xs) all in and_true (keeps_key x) _ h.0 (kept_marks n xs h.1)
+kept_marks n (x ∷ xs) all = let h = and_parts (keeps_key x) (list_all keeps_key xs) all in and_from (keeps_key x) _ h.0 (kept_marks n xs h.1)
 
 new_kept : (place : ℕ) (ms : List NewMark) → list_all (λ (m : NewMark). list_all can_keep m.key) ms ≡ true → list_all keeps_key (map (mark_piece place) ms) ≡ true
 new_kept place [] all = refl
 new_kept place (m ∷ ms) all =
-    let h = both (list_all can_keep m.key) (list_all (λ (k : NewMark). list_all can_keep k.key) ms) all in and_true (list_all can_keep m.key) (list_all keeps_key (map (mark_piece place) ms)) h.0 (new_kept place ms h.1)
+    let h = and_parts (list_all can_keep m.key) (list_all (λ (k : NewMark). list_all can_keep k.key) ms) all in and_from (list_all can_keep m.key) (list_all keeps_key (map (mark_piece place) ms)) h.0 (new_kept place ms h.1)
 
 pub kept_settle : (rs : List Stored) (counters_id id : ℕ) (new : Counters) (a : Space) (ms : List NewMark) (ids : List ℕ) (drawn : List PieceRecord) → list_all (λ (m : NewMark). list_all can_keep m.key) ms ≡ true → Remarked rs a ms ids drawn
     → list_all is_kept_change (settle_batch counters_id new a.number ids id drawn) ≡ true
@@ -54,7 +54,7 @@ pub changes_settle : (rs : List Stored) (counters_id id : ℕ) (c new : Counters
 changes_settle rs counters_id id c new a ms ids drawn at r =
     ap (λ xs. ids_differ (counters_id ∷ xs)) (ids_of-dropped ids _)
     ∙ ids-put id (map records.Mark (map (trace_of a.number) drawn)) (counters_id ∷ ids) (one_before counters_id ids (r.gone counters_id (records.Counters c) at.counters) r.once)
-    (and_true (nat_lt counters_id id) _ (lt_test counters_id id (under_found id rs counters_id (records.Counters c) at.under at.counters)) (all_below rs id ids at.under r.there))
+    (and_from (nat_lt counters_id id) _ (lt-ltb counters_id id (under_found id rs counters_id (records.Counters c) at.under at.counters)) (all_below rs id ids at.under r.there))
 
 -- a row is none of what the batch puts and drops
 pub settle_away : (rs : List Stored) (counters_id id : ℕ) (c new : Counters) (a : Space) (ms : List NewMark) (ids : List ℕ) (drawn : List PieceRecord) → CountersAt rs counters_id id c → Remarked rs a ms ids drawn

@@ -1,7 +1,8 @@
 -- The records stand for the state in which cells of a workspace were settled: all is as it was but for its marks.
-use Rattle.std.proofs.Common.{◌≡◌, ◌≢◌, ℕ, ◌+◌, ◌-◌, ◌==◌, ◌&&◌, max, Bool, true, false, cond, if◌then◌else◌, List, map, length, Option, Some, None, is_some, refl, sym, ap, subst, ◌∙◌, ◌⊎◌, inl, inr, ⊎_elim, arith}
-use Rattle.std.proofs.lemmas.Bool.{ne_eqb}
+use Rattle.std.proofs.Common.{◌≡◌, ◌≢◌, ℕ, ◌+◌, ◌-◌, ◌==◌, max, Bool, true, false, cond, if◌then◌else◌, List, map, length, Option, Some, None, is_some, refl, sym, ap, subst, ◌∙◌, ◌⊎◌, inl, inr, ⊎_elim, arith}
+use Rattle.std.proofs.lemmas.Bool.{ne_eqb, and_left, and_right}
 use Rattle.std.proofs.lemmas.List.Elements.{All-append}
+use Rattle.std.proofs.lemmas.Option.{same_Some}
 use Rattle.std.specs.List.{All}
 use Rattle.std.specs.Option.{option_map}
 use Rattle.wm_graph.specs.Parts.{Parts, space_of}
@@ -126,24 +127,14 @@ module _ (p q : Parts) (s t : Durable) (n : ℕ) (ms : List NewMark) (g : Settle
 
   -- the last place that was given in the workspace
   last_place : (o : Workspace) → SpacesStand p s → workspace_of s.spaces n ≡ Some o → o.next_place - 1 ≡ g.place
-  last_place o st is = behind o.next_place g.place (sym (ap (λ (f : SpaceFields). f.next_place) (some_same (fields_of g.old) (fields_in o) (sym (ap (option_map fields_of) g.old_is) ∙ st.same n ∙ ap (option_map fields_in) is))) ∙ g.last)
+  last_place o st is = behind o.next_place g.place (sym (ap (λ (f : SpaceFields). f.next_place) (same_Some (fields_of g.old) (fields_in o) (sym (ap (option_map fields_of) g.old_is) ∙ st.same n ∙ ap (option_map fields_in) is))) ∙ g.last)
     where
-      some_same : (f k : SpaceFields) → Some f ≡ Some k → f ≡ k
-      some_same f k e = cc
-
       behind : (next place : ℕ) → next ≡ place + 1 → next - 1 ≡ place
       behind next place e = omega (arith, e)
 
   MarksStand-settled : SpacesStand p s → MarksStand p s → MarksStand q t
   MarksStand-settled st stand = MarksStand-kept p q s t (λ m new is. by_how m new (before m new is)) stand
     where
-      first_false : (a b : Bool) → a ≡ false → (a && b) ≡ false
-      first_false a b e = rw e refl
-
-      second_false : (a b : Bool) → b ≡ false → (a && b) ≡ false
-      second_false true b e = e
-      second_false false b e = refl
-
       turned : (a b : ℕ) → (a == b) ≡ (b == a)
       turned a b = grind arith
 
@@ -155,7 +146,7 @@ module _ (p q : Parts) (s t : Durable) (n : ℕ) (ms : List NewMark) (g : Settle
 
       by_place : (w : ℕ) (c : Cell) (b : Bool) → (w == g.place) ≡ b → marked_at q.marks n w c ≡ max (marked_at p.marks n w c) (if b then said ms c else 0)
       by_place w c true is = subst (λ k. marked_at q.marks n k c ≡ max (marked_at p.marks n k c) (said ms c)) (sym (same_place w is)) (g.here c)
-      by_place w c false is = g.elsewhere n w c (second_false (n == n) (w == g.place) is) ∙ at_least (marked_at p.marks n w c)
+      by_place w c false is = g.elsewhere n w c (and_right (n == n) (w == g.place) is) ∙ at_least (marked_at p.marks n w c)
 
       -- the marks that come are at the place that was given last
       marked : (o : Workspace) → workspace_of s.spaces n ≡ Some o → AreMarked q.marks n (with_marks ms o)
@@ -177,7 +168,7 @@ module _ (p q : Parts) (s t : Durable) (n : ℕ) (ms : List NewMark) (g : Settle
           (λ (h : (m ≡ n) × (new ≡ with_marks ms y.old)).
           inr (subst (λ (v : Workspace). AreMarked q.marks m v) (sym h.1) (subst (λ k. AreMarked q.marks k (with_marks ms y.old)) (sym h.0) (marked y.old (ap (workspace_of s.spaces) (sym h.0) ∙ y.is)))))
           (λ (h : (m ≢ n) × (new ≡ y.old)).
-          inl (record { old = y.old; is = y.is; same = ap marks_in h.1 }, λ w c. g.elsewhere m w c (first_false (m == n) (w == g.place) (ne_eqb m n h.0))))
+          inl (record { old = y.old; is = y.is; same = ap marks_in h.1 }, λ w c. g.elsewhere m w c (and_left (m == n) (w == g.place) (ne_eqb m n h.0))))
           y.how
 
   -- ---- all clauses

@@ -1,5 +1,6 @@
 -- What is told of the plan by which a workspace is born.
-use Rattle.std.proofs.Common.{◌≡◌, ℕ, ◌+◌, ◌<◌, ◌≤◌, nat_lt, true, false, List, [], ◌∷◌, Option, Some, None, is_some, Result, Ok, Err, IfOk, refl, sym, ap, ◌∙◌, arith}
+use Rattle.std.proofs.Common.{◌≡◌, ℕ, ◌+◌, ◌<◌, ◌≤◌, nat_lt, true, false, List, [], ◌∷◌, Option, Result, Ok, Err, IfOk, sym, ap, ◌∙◌, arith}
+use Rattle.wm_base.proofs.Plain.{none_since}
 use Rattle.wm_base.specs.declared.memory.Memory.{Memory}
 use Rattle.wm_graph.specs.Parts.{parts_of}
 use Rattle.wm_model.specs.Planning.{Does, IsOpen, Stay}
@@ -13,20 +14,12 @@ use Rattle.wm_state.specs.Points.{next_place_at}
 use Rattle.wm_state.specs.Standing.{space_after}
 use Rattle.wm_state.specs.State.{Session, Stand}
 use Rattle.wm_state.specs.declared.edit.Edit.TheVariants as edits
-use Rattle.wm_state.proofs.Tests.{bool_apart}
 use Rattle.wm_plan.proofs.Planning.{told}
 use Rattle.wm_plan.specs.Planning.{DoesIt}
 use Rattle.wm_plan.specs.Views.{answer_view, seating_view}
 use Rattle.wm_plan.specs.declared.answer.Answer.TheVariants as answers
 use Rattle.wm_plan.specs.declared.planned.Planned.{Planned}
 use Rattle.wm_plan.specs.declared.seating.Seating.TheVariants as seatings
-
--- ---- where one stands
-
--- nothing is found where nothing is there
-pub none_of : {A : Type 0} (o : Option A) → is_some o ≡ false → o ≡ None
-none_of None none = refl
-none_of (Some x) none = absurd (bool_apart none)
 
 -- ---- the numbers that are left
 

@@ -1,6 +1,6 @@
 -- What is told of the plan by which a savepoint is made.
 use Rattle.std.proofs.Common.{◌≡◌, ℕ, ◌<◌, ◌≤◌, ◌==◌, nat_le, true, false, List, [], ◌∷◌, Option, Some, None, is_some, Bor, Result, Ok, Err, IfOk, refl, sym, ap, subst, arith}
-use Rattle.std.proofs.lemmas.Bool.{eq-eqb}
+use Rattle.std.proofs.lemmas.Bool.{eq-eqb, true≢false}
 use Rattle.std.specs.List.{find}
 use Rattle.std.specs.Option.{option_copied}
 use Rattle.std.specs.Str.{bytes_eq}
@@ -17,7 +17,6 @@ use Rattle.wm_state.specs.State.{Session}
 use Rattle.wm_state.specs.declared.edit.Edit.TheVariants as edits
 use Rattle.wm_state.proofs.Mapped.{find-again}
 use Rattle.wm_state.proofs.Spaces.{ruled_spaces}
-use Rattle.wm_state.proofs.Tests.{bool_apart}
 use Rattle.wm_plan.proofs.Planning.{told}
 use Rattle.wm_plan.specs.Planning.{DoesIt}
 use Rattle.wm_plan.specs.Views.{answer_view, seating_view}
@@ -28,12 +27,12 @@ use Rattle.wm_plan.specs.declared.seating.Seating.TheVariants as seatings
 -- ---- what was looked up
 
 pub is_there : {A : Type 0} (r : Option (Bor A)) (o : Option A) → option_copied r ≡ o → true ≡ is_some r → is_some o ≡ true
-is_there None o is some = absurd (bool_apart some)
+is_there None o is some = absurd (true≢false some)
 is_there (Some x) o is some = ap is_some (sym is)
 
 pub is_gone : {A : Type 0} (r : Option (Bor A)) (o : Option A) → option_copied r ≡ o → false ≡ is_some r → o ≡ None
 is_gone None o is none = sym is
-is_gone (Some x) o is none = absurd (bool_apart (sym none))
+is_gone (Some x) o is none = absurd (true≢false (sym none))
 
 pub savepoints_full : (k n : ℕ) → n ≡ k → 4096 ≤ n → nat_le 4096 k ≡ true
 savepoints_full k n is le = grind (arith, is, le)

@@ -4,6 +4,7 @@ use Rattle.std.specs.List.{list_any}
 use Rattle.std.specs.Ordering.{is_eq, is_lt}
 use Rattle.std.specs.declared.cmp.Ordering.{Ordering}
 use Rattle.std.specs.declared.cmp.Ordering.TheVariants.{Less, Equal, Greater}
+use Rattle.wm_base.proofs.Plain.{or_swap}
 use Rattle.wm_base.specs.Key.{key_order}
 use Rattle.wm_base.specs.Orders.{key_order_total, key_order-equal}
 use Rattle.wm_base.specs.declared.value.Value.{Value}
@@ -48,12 +49,6 @@ pub key_in-has : (k j : List Value) (ks : List (List Value)) → is_key_in j (ke
 key_in-has k j [] = refl
 key_in-has k j (x ∷ ks) = by_order (key_order k x) refl (key_in-has k j ks)
   where
-    swap : (a b c : Bool) → (a || (b || c)) ≡ (b || (a || c))
-    swap true true c = refl
-    swap true false c = refl
-    swap false true c = refl
-    swap false false c = refl
-
     twice : (a b c : Bool) → a ≡ b → (b || c) ≡ (a || (b || c))
     twice true b c e = rw (sym e) refl
     twice false b c e = refl
@@ -62,7 +57,7 @@ key_in-has k j (x ∷ ks) = by_order (key_order k x) refl (key_in-has k j ks)
         → is_key_in j (if is_lt o then k ∷ x ∷ ks else (if is_eq o then x ∷ ks else x ∷ key_in k ks)) ≡ (is_eq (key_order k j) || (is_eq (key_order x j) || is_key_in j ks))
     by_order Less e rest = refl
     by_order Equal e rest = twice (is_eq (key_order k j)) (is_eq (key_order x j)) (is_key_in j ks) (ap (λ y. is_eq (key_order y j)) (key_order-equal k x e))
-    by_order Greater e rest = ap (λ b. is_eq (key_order x j) || b) rest ∙ swap (is_eq (key_order x j)) (is_eq (key_order k j)) (is_key_in j ks)
+    by_order Greater e rest = ap (λ b. is_eq (key_order x j) || b) rest ∙ or_swap (is_eq (key_order x j)) (is_eq (key_order k j)) (is_key_in j ks)
 
 -- they are the keys of the entries of the table, and no others
 pub keys-of_entries : (es : List Entry) (table : ℕ) (key : List Value) → is_key_in key (keys es table) ≡ list_any (is_of table key) es

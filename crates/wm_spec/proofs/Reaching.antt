@@ -1,5 +1,5 @@
 -- Laws of how far a list reaches at a cell.
-use Rattle.std.proofs.Common.{◌≡◌, ℕ, suc, ◌+◌, nat_lt, Bool, true, false, ◌||◌, if◌then◌else◌, List, [], ◌∷◌, ◌++◌, length, Option, None, Some, is_some, refl, sym, ap, ◌∙◌, arith}
+use Rattle.std.proofs.Common.{◌≡◌, ℕ, suc, ◌+◌, ◌≤◌, nat_lt, Bool, true, false, ◌||◌, cond, if◌then◌else◌, List, [], ◌∷◌, ◌++◌, length, Option, None, Some, is_some, refl, sym, ap, ◌∙◌, arith}
 use Rattle.std.specs.Bool.{then_some}
 use Rattle.std.specs.Option.{option_or}
 use Rattle.wm_spec.specs.Lists.{Entry, Cell, Told, covers, reach, told, told_of, touched}
@@ -49,3 +49,16 @@ reach-append (e ∷ xs) ys c = rw (touched-append xs ys c, reach-append xs ys c)
         ≡ (if b then reach ys c + length (e ∷ xs) else (if touched xs c then reach xs c + 1 else (if covers e c then 1 else 0)))
     by_last true = further (reach ys c) (length xs)
     by_last false = refl
+
+-- a log reaches no further than it is long
+pub reach_within : (es : List Entry) (c : Cell) → reach es c ≤ length es
+reach_within [] c = none_less
+  where
+    none_less : 0 ≤ 0
+    none_less = omega arith
+reach_within (e ∷ es) c = by_test (touched es c) (covers e c) (reach_within es c)
+  where
+    by_test : (t u : Bool) → reach es c ≤ length es → cond t (reach es c + 1) (cond u 1 0) ≤ length (e ∷ es)
+    by_test true u rest = omega (arith, rest)
+    by_test false true rest = omega arith
+    by_test false false rest = omega arith

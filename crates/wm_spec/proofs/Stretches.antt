@@ -1,6 +1,6 @@
 -- Laws of the maximal stretches of a function of the moment, and of the rows of a list.
 use Rattle.std.proofs.Common.{◌≡◌, ℕ, ◌<◌, ◌≤◌, ◌⊎◌, inl, inr, List, [], ◌∷◌, Option, None, Some, Bool, true, false, ◌&&◌, ◌||◌, ◌==◌, nat_le, nat_lt, refl, sym, ap, ◌∙◌, arith, ⊎_elim}
-use Rattle.std.proofs.lemmas.Bool.{and_parts, eq-eqb}
+use Rattle.std.proofs.lemmas.Bool.{and_parts, eq-eqb, eqb-true, ltb-false, ltb-true}
 use Rattle.std.specs.Bool.{then_some}
 use Rattle.std.specs.Option.{option_or, option_and_then}
 use Rattle.wm_base.proofs.Plain.{option_or-none, option_or_assoc}
@@ -145,10 +145,6 @@ AreMaximal-lower : (low high : ℕ) (ss : List Stretch) → low ≤ high → Are
 AreMaximal-lower low high [] le max = tt
 AreMaximal-lower low high (s ∷ ss) le max = (omega (arith, le, max.0), max.1, max.2, max.3)
 
--- stamps that are equal as numbers are equal
-same_number : (m n : ℕ) → (m == n) ≡ true → m ≡ n
-same_number m n e = grind (arith, e)
-
 IsApart-stamp : (till a b : ℕ) (ss : List Stretch) → a ≡ b → IsApart till b ss → IsApart till a ss
 IsApart-stamp till a b [] same apart = tt
 IsApart-stamp till a b (s ∷ ss) same apart = λ meets equal. apart meets (sym same ∙ equal)
@@ -163,7 +159,7 @@ AreMaximal-joined from till stamp (s ∷ ss) lt max =
     (λ e. rw e (
       omega arith,
       omega (arith, lt, max.0, max.1),
-      IsApart-stamp s.till stamp s.stamp ss (same_number stamp s.stamp (and_parts (till == s.from) (stamp == s.stamp) e).1) max.2,
+      IsApart-stamp s.till stamp s.stamp ss (eqb-true stamp s.stamp (and_parts (till == s.from) (stamp == s.stamp) e).1) max.2,
       max.3,
     ))
     (λ e. rw e (
@@ -193,7 +189,7 @@ chosen-or false true x = refl
 chosen-or false false x = refl
 
 -- so a stretch that is made longer holds what the two held
-merged : (v : Option ℕ) (from middle till stamp t : ℕ) → from < middle → middle < till
+pub merged : (v : Option ℕ) (from middle till stamp t : ℕ) → from < middle → middle < till
     → option_or v (then_some (has from till t) stamp) ≡ option_or (option_or v (then_some (has middle till t) stamp)) (then_some (has from middle t) stamp)
 merged v from middle till stamp t lt1 lt2 =
     sym (option_or_assoc v (then_some (has middle till t) stamp) (then_some (has from middle t) stamp)
@@ -205,8 +201,8 @@ value-joined : (from till stamp t : ℕ) (ss : List Stretch) → from < till →
 value-joined from till stamp t [] lt max = refl
 value-joined from till stamp t (s ∷ ss) lt max =
     by_test ((till == s.from) && (stamp == s.stamp))
-    (λ e. rw e (rw (← same_number till s.from (and_parts (till == s.from) (stamp == s.stamp) e).0, ← same_number stamp s.stamp (and_parts (till == s.from) (stamp == s.stamp) e).1)
-    (merged (value_at ss t) from till s.till stamp t lt (omega (arith, max.0, max.1, same_number till s.from (and_parts (till == s.from) (stamp == s.stamp) e).0)))))
+    (λ e. rw e (rw (← eqb-true till s.from (and_parts (till == s.from) (stamp == s.stamp) e).0, ← eqb-true stamp s.stamp (and_parts (till == s.from) (stamp == s.stamp) e).1)
+    (merged (value_at ss t) from till s.till stamp t lt (omega (arith, max.0, max.1, eqb-true till s.from (and_parts (till == s.from) (stamp == s.stamp) e).0)))))
     (λ e. rw e refl)
 
 value-onto : (from till t : ℕ) (o : Option ℕ) (ss : List Stretch) → from < till → AreMaximal till ss
@@ -215,7 +211,7 @@ value-onto from till t None ss lt max = sym (option_or-none (value_at ss t))
 value-onto from till t (Some stamp) ss lt max = value-joined from till stamp t ss lt max
 
 -- nothing stands before the first
-value-before : (t low : ℕ) (ss : List Stretch) → t < low → AreMaximal low ss → value_at ss t ≡ None
+pub value-before : (t low : ℕ) (ss : List Stretch) → t < low → AreMaximal low ss → value_at ss t ≡ None
 value-before t low [] lt max = refl
 value-before t low (s ∷ ss) lt max =
     rw (value-before t s.till ss (omega (arith, lt, max.0, max.1)) max.3, has-not t s.from s.till (omega (arith, lt, max.0))) refl
@@ -240,16 +236,10 @@ value-stretches f low [] up steady t le = sym (steady t le)
 value-stretches f low (a ∷ cs) up steady t le =
     value-onto low a t (f low) (stretches f a cs) up.0 (AreMaximal-stretches f a cs up.1)
     ∙ by_test (nat_lt t a)
-    (λ e. rw (value-before t a (stretches f a cs) (less t a e) (AreMaximal-stretches f a cs up.1), has-within low a t le (less t a e), kept (f low))
-    (sym (steady.0 t le (less t a e))))
-    (λ e. rw (has-behind low a a t (omega arith) (not_less t a e), let_go (f low), option_or-none (value_at (stretches f a cs) t))
-    (value-stretches f a cs up.1 steady.1 t (not_less t a e)))
-  where
-    less : (m n : ℕ) → nat_lt m n ≡ true → m < n
-    less m n e = grind (arith, e)
-
-    not_less : (m n : ℕ) → nat_lt m n ≡ false → n ≤ m
-    not_less m n e = grind (arith, e)
+    (λ e. rw (value-before t a (stretches f a cs) (ltb-true t a e) (AreMaximal-stretches f a cs up.1), has-within low a t le (ltb-true t a e), kept (f low))
+    (sym (steady.0 t le (ltb-true t a e))))
+    (λ e. rw (has-behind low a a t (omega arith) (ltb-false t a e), let_go (f low), option_or-none (value_at (stretches f a cs) t))
+    (value-stretches f a cs up.1 steady.1 t (ltb-false t a e)))
 
 -- at each moment the rows of a key hold what the list holds there
 pub value-rows : (es : List Entry) (table : ℕ) (key : List Value) (t : ℕ) → value_at (rows_of_key es table key) t ≡ stamp_at es table key t

@@ -1,7 +1,7 @@
 -- A merge or a refresh that removes nothing changes eight records at most, eight for each stretch of what is own or pending, and each mark
 -- of the workspace.
-use Rattle.std.proofs.Common.{◌≡◌, ℕ, ◌+◌, ◌*◌, ◌<◌, ◌≤◌, ◌==◌, Bool, true, false, not, ◌&&◌, ◌||◌, if◌then◌else◌, List, [], ◌∷◌, ◌++◌, drop, map, length, zero, suc, Option, Some, None, is_some, unwrap_or, refl, sym, ap, subst, ◌∙◌, arith}
-use Rattle.std.proofs.lemmas.Bool.{ne_eqb}
+use Rattle.std.proofs.Common.{◌≡◌, ℕ, ◌+◌, ◌*◌, ◌<◌, ◌≤◌, ◌==◌, Bool, true, false, not, ◌&&◌, if◌then◌else◌, List, [], ◌∷◌, ◌++◌, drop, map, length, zero, suc, Option, Some, None, is_some, unwrap_or, refl, sym, ap, subst, ◌∙◌, arith}
+use Rattle.std.proofs.lemmas.Bool.{ne_eqb, and_parts, or_right, true≢false}
 use Rattle.std.specs.List.{filter}
 use Rattle.std.specs.Option.{option_map_or}
 use Rattle.std.specs.declared.alloc.Global.{Global}
@@ -27,7 +27,6 @@ use Rattle.wm_spec.specs.declared.record.Record.{Record}
 use Rattle.wm_spec.specs.declared.record.space.Space.{Space}
 use Rattle.wm_spec.specs.declared.record.stored.Stored.{Stored}
 use Rattle.wm_spec.specs.declared.record.trace.Trace.{Trace}
-use Rattle.wm_state.proofs.Tests.{bool_apart, both}
 use Rattle.wm_state.specs.Editing.{entry_of}
 use Rattle.wm_state.specs.Standing.{Stands}
 use Rattle.wm_state.specs.State.{Durable, Session, State, Workspace, fresh_live, workspace_named, workspace_of}
@@ -45,14 +44,14 @@ use Rattle.wm_spending.proofs.Steps.{IsAt}
 cuts_dropped : (all : List Entry) (n : ℕ) (es : List Entry) → has_cuts all es ≡ true → has_cuts all (drop n es) ≡ true
 cuts_dropped all zero es cut = cut
 cuts_dropped all (suc n) [] cut = refl
-cuts_dropped all (suc n) (e ∷ es) cut = cuts_dropped all n es (both (is_end all e.table e.key e.from && is_end all e.table e.key e.till) (has_cuts all es) cut).1
+cuts_dropped all (suc n) (e ∷ es) cut = cuts_dropped all n es (and_parts (is_end all e.table e.key e.from && is_end all e.table e.key e.till) (has_cuts all es) cut).1
 
 -- what is gained is pending and not own
 gained_alone : (es own pending : List Entry) (c : Cell) → told es c ≡ (if touched own c then None else told pending c) → touched es c ≡ true → touched_alone own pending c ≡ true
 gained_alone es own pending c is here = by_own (touched own c) (told pending c) (ap is_some (sym is) ∙ here)
   where
     by_own : (b : Bool) (o : Option Told) → is_some (if b then None else o) ≡ true → (is_some o && not b) ≡ true
-    by_own true o e = absurd (bool_apart (sym e))
+    by_own true o e = absurd (true≢false (sym e))
     by_own false (Some t) e = refl
     by_own false None e = e
 
@@ -60,11 +59,7 @@ left_head : (n m : ℕ) (r : Record) → is_head n r ≡ true → is_either n m 
 left_head n m r is = rw is refl
 
 right_head : (n m : ℕ) (r : Record) → is_head m r ≡ true → is_either n m r ≡ true
-right_head n m r is = by_left (is_head n r) (is_head m r) is
-  where
-    by_left : (a b : Bool) → b ≡ true → (a || b) ≡ true
-    by_left true b e = refl
-    by_left false b e = e
+right_head n m r is = or_right (is_head n r) (is_head m r) is
 
 -- ---- a workspace beside its parent
 

@@ -1,6 +1,6 @@
 -- Pieces of one version that do not collide, as cells that share none.
 use Rattle.std.proofs.Common.{◌≡◌, ℕ, ◌==◌, nat_le, nat_lt, Bool, true, false, not, ◌&&◌, ◌||◌, cond, List, [], ◌∷◌, ◌++◌, refl, sym, ap, ◌∙◌, arith}
-use Rattle.std.proofs.lemmas.Bool.{eqb-true, eq-eqb}
+use Rattle.std.proofs.lemmas.Bool.{eqb-true, eq-eqb, and_from, and_parts, not-true, or_left, or_parts, or_right}
 use Rattle.std.proofs.lemmas.Bool.Decides.{nat_tests}
 use Rattle.std.proofs.lemmas.List.Elements.{All-cons, All-nil, All-tail}
 use Rattle.std.proofs.lemmas.List.Folds.{list_any-append}
@@ -16,14 +16,13 @@ use Rattle.wm_net.specs.Groups.{Group, same_group}
 use Rattle.wm_spec.specs.Lists.{Cell, Entry, is_of}
 use Rattle.wm_spec.specs.declared.record.cell_range.CellRange.{CellRange}
 use Rattle.wm_spec.specs.declared.record.piece.PieceRecord.{PieceRecord}
-use Rattle.wm_state.proofs.Tests.{and_true, both, either_false, not_true}
 
 -- ---- lists that are filtered
 
 -- what passes one test has what the other test gives it
 pub all_filtered : {X : Type 0} (P : X → Type 0) (test ok : X → Bool) → ((x : X) → ok x ≡ true → test x ≡ true → P x) → (xs : List X) → list_all ok xs ≡ true → All P (filter test xs)
 all_filtered P test ok gives [] all = All-nil P
-all_filtered {X = X} P test ok gives (x ∷ xs) all = let h = both (ok x) (list_all ok xs) all in by_test (test x) refl h.0 (all_filtered P test ok gives xs h.1)
+all_filtered {X = X} P test ok gives (x ∷ xs) all = let h = and_parts (ok x) (list_all ok xs) all in by_test (test x) refl h.0 (all_filtered P test ok gives xs h.1)
   where
     by_test : (b : Bool) → test x ≡ b → ok x ≡ true → All P (filter test xs) → All P (cond b (x ∷ filter test xs) (filter test xs))
     by_test true is good rest = All-cons P x (filter test xs) (gives x good is) rest
@@ -42,23 +41,16 @@ EndIn es all = (table : ℕ) (key : List Value) (t : ℕ) → is_end es table ke
 
 pub ends_in : (es all : List Entry) (r : CellRange) → EndIn es all → has_ends es r ≡ true → has_ends all r ≡ true
 ends_in es all r more ends =
-    let h = both (is_end es r.table r.key r.from) (is_end es r.table r.key r.till) ends in
-    and_true (is_end all r.table r.key r.from) (is_end all r.table r.key r.till) (more r.table r.key r.from h.0) (more r.table r.key r.till h.1)
-
-or_first : (a b : Bool) → a ≡ true → (a || b) ≡ true
-or_first a b e = rw e refl
-
-or_second : (a b : Bool) → b ≡ true → (a || b) ≡ true
-or_second true b e = refl
-or_second false b e = e
+    let h = and_parts (is_end es r.table r.key r.from) (is_end es r.table r.key r.till) ends in
+    and_from (is_end all r.table r.key r.from) (is_end all r.table r.key r.till) (more r.table r.key r.from h.0) (more r.table r.key r.till h.1)
 
 pub end_first : (es fs : List Entry) → EndIn es (es ++ fs)
 end_first es fs table key t e =
-    list_any-append (λ (x : Entry). is_of table key x && ((x.from == t) || (x.till == t))) es fs ∙ or_first (is_end es table key t) (is_end fs table key t) e
+    list_any-append (λ (x : Entry). is_of table key x && ((x.from == t) || (x.till == t))) es fs ∙ or_left (is_end es table key t) (is_end fs table key t) e
 
 pub end_second : (es fs : List Entry) → EndIn fs (es ++ fs)
 end_second es fs table key t e =
-    list_any-append (λ (x : Entry). is_of table key x && ((x.from == t) || (x.till == t))) es fs ∙ or_second (is_end es table key t) (is_end fs table key t) e
+    list_any-append (λ (x : Entry). is_of table key x && ((x.from == t) || (x.till == t))) es fs ∙ or_right (is_end es table key t) (is_end fs table key t) e
 
 pub end_then : (es fs gs : List Entry) → EndIn es fs → EndIn fs gs → EndIn es gs
 end_then es fs gs one two table key t e = two table key t (one table key t e)
@@ -79,13 +71,13 @@ shares x y c one two =
     let g : Group = record { table = x.cells.table; key = x.cells.key } in
     let h : Group = record { table = y.cells.table; key = y.cells.key } in
     let k : Group = record { table = c.table; key = c.key } in
-    let a = both (same_group g k) (nat_le x.cells.from c.time && nat_lt c.time x.cells.till) one in
-    let b = both (same_group h k) (nat_le y.cells.from c.time && nat_lt c.time y.cells.till) two in
-    let ta = both (nat_le x.cells.from c.time) (nat_lt c.time x.cells.till) a.1 in
-    let tb = both (nat_le y.cells.from c.time) (nat_lt c.time y.cells.till) b.1 in
+    let a = and_parts (same_group g k) (nat_le x.cells.from c.time && nat_lt c.time x.cells.till) one in
+    let b = and_parts (same_group h k) (nat_le y.cells.from c.time && nat_lt c.time y.cells.till) two in
+    let ta = and_parts (nat_le x.cells.from c.time) (nat_lt c.time x.cells.till) a.1 in
+    let tb = and_parts (nat_le y.cells.from c.time) (nat_lt c.time y.cells.till) b.1 in
     let same : same_group g h ≡ true = ap (same_group g) (same_group-is h k b.0) ∙ a.0 in
-    and_true (same_group g h) (nat_lt x.cells.from y.cells.till && nat_lt y.cells.from x.cells.till) same
-    (and_true (nat_lt x.cells.from y.cells.till) (nat_lt y.cells.from x.cells.till) (between x.cells.from c.time y.cells.till ta.0 tb.1) (between y.cells.from c.time x.cells.till tb.0 ta.1))
+    and_from (same_group g h) (nat_lt x.cells.from y.cells.till && nat_lt y.cells.from x.cells.till) same
+    (and_from (nat_lt x.cells.from y.cells.till) (nat_lt y.cells.from x.cells.till) (between x.cells.from c.time y.cells.till ta.0 tb.1) (between y.cells.from c.time x.cells.till tb.0 ta.1))
   where
     between : (from t till : ℕ) → nat_le from t ≡ true → nat_lt t till ≡ true → nat_lt from till ≡ true
     between from t till le lt = grind (arith, nat_tests, le, lt)
@@ -99,15 +91,15 @@ crossing version x y here also =
 no_two_there : (version : ℕ) (xs : List PieceRecord) → list_all (λ (x : PieceRecord). x.version == version) xs ≡ true → differ collide xs ≡ true → no_two cross xs ≡ true
 no_two_there version [] here apart = refl
 no_two_there version (x ∷ xs) here apart =
-    let h = both (x.version == version) (list_all (λ (y : PieceRecord). y.version == version) xs) here in
-    let g = both (not (list_any (collide x) xs)) (differ collide xs) apart in
-    and_true (not (list_any (cross x) xs)) (no_two cross xs) (ap not (none h.0 xs h.1 (not_true (list_any (collide x) xs) g.0))) (no_two_there version xs h.1 g.1)
+    let h = and_parts (x.version == version) (list_all (λ (y : PieceRecord). y.version == version) xs) here in
+    let g = and_parts (not (list_any (collide x) xs)) (differ collide xs) apart in
+    and_from (not (list_any (cross x) xs)) (no_two cross xs) (ap not (none h.0 xs h.1 (not-true (list_any (collide x) xs) g.0))) (no_two_there version xs h.1 g.1)
   where
     none : (x.version == version) ≡ true → (ys : List PieceRecord) → list_all (λ (y : PieceRecord). y.version == version) ys ≡ true → list_any (collide x) ys ≡ false → list_any (cross x) ys ≡ false
     none first [] all free = refl
     none first (y ∷ ys) all free =
-        let h = both (y.version == version) (list_all (λ (z : PieceRecord). z.version == version) ys) all in
-        let g = either_false (collide x y) (list_any (collide x) ys) free in
+        let h = and_parts (y.version == version) (list_all (λ (z : PieceRecord). z.version == version) ys) all in
+        let g = or_parts (collide x y) (list_any (collide x) ys) free in
         rw (sym (crossing version x y first h.0) ∙ g.0) (none first ys h.1 g.1)
 
 -- so pieces of one version share no cell

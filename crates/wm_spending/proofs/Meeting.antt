@@ -1,6 +1,6 @@
 -- The touches that entries meet are no more than the stretches of the entries' cells.
 use Rattle.std.proofs.Common.{◌≡◌, ℕ, ◌+◌, ◌-◌, ◌*◌, ◌<◌, ◌≤◌, ◌==◌, nat_le, nat_lt, max, Bool, true, false, not, ◌&&◌, ◌||◌, cond, if◌then◌else◌, List, [], ◌∷◌, length, Option, refl, sym, ap, subst, ◌∙◌, arith}
-use Rattle.std.proofs.lemmas.Bool.{eqb-true, eq-eqb}
+use Rattle.std.proofs.lemmas.Bool.{eqb-true, eq-eqb, and_from, and_parts, or_right, true≢false}
 use Rattle.std.proofs.lemmas.Bool.Decides.{nat_tests}
 use Rattle.std.proofs.lemmas.List.Elements.{All-head, All-tail}
 use Rattle.std.specs.Bool.{then_some}
@@ -22,7 +22,7 @@ use Rattle.wm_spec.specs.declared.record.trace.Trace.{Trace}
 use Rattle.wm_state.proofs.Apart.{found-passes, ruled}
 use Rattle.wm_state.proofs.Laying.{key_itself}
 use Rattle.wm_state.proofs.Spaces.{IsSpace, ruled_spaces}
-use Rattle.wm_state.proofs.Tests.{and_true, bool_apart, both, differ_filter}
+use Rattle.wm_state.proofs.Tests.{differ_filter}
 use Rattle.wm_state.specs.Drawing.{is_clear}
 use Rattle.wm_state.specs.Standing.{IsReal, SpaceFields, Stands, touches_end}
 use Rattle.wm_state.specs.State.{Durable, Workspace}
@@ -38,7 +38,7 @@ pub record Hit (place : ℕ) (es : List Entry) (y : PieceRecord) : Type 0 where
   pub shared : Meet (has_cell y.cells) (touched es)
 
 hit : (tables : List Table) (place start : ℕ) (es : List Entry) (y : PieceRecord) → All (IsReal tables) es → nat_lt y.cells.from y.cells.till ≡ true → not (is_clear (marks_of place start es) y) ≡ true → Hit place es y
-hit tables place start [] y real some met = absurd (bool_apart (sym met))
+hit tables place start [] y real some met = absurd (true≢false (sym met))
 hit tables place start (e ∷ es) y real some met =
     by_first (collide mark y) refl met (All-head (IsReal tables) e es real).some (hit tables place (start + 1) es y (All-tail (IsReal tables) e es real) some)
   where
@@ -63,10 +63,6 @@ hit tables place start (e ∷ es) y real some met =
     begins : e.from < e.till → nat_lt e.from e.till ≡ true
     begins lt = grind (arith, nat_tests, lt)
 
-    or_later : (a b : Bool) → b ≡ true → (a || b) ≡ true
-    or_later true b is = refl
-    or_later false b is = is
-
     by_first : (b : Bool) → collide mark y ≡ b → not (not b && is_clear (marks_of place (start + 1) es) y) ≡ true → e.from < e.till
         → (not (is_clear (marks_of place (start + 1) es) y) ≡ true → Hit place es y) → Hit place (e ∷ es) y
     by_first false is free lt rest =
@@ -80,20 +76,20 @@ hit tables place start (e ∷ es) y real some met =
           };
         }
     by_first true is free lt rest =
-        let a = both ((place == y.version) && ((e.table == y.cells.table) && is_eq (key_order e.key y.cells.key))) (nat_lt e.from y.cells.till && nat_lt y.cells.from e.till) is in
-        let b = both (place == y.version) ((e.table == y.cells.table) && is_eq (key_order e.key y.cells.key)) a.0 in
-        let d = both (nat_lt e.from y.cells.till) (nat_lt y.cells.from e.till) a.1 in
+        let a = and_parts ((place == y.version) && ((e.table == y.cells.table) && is_eq (key_order e.key y.cells.key))) (nat_lt e.from y.cells.till && nat_lt y.cells.from e.till) is in
+        let b = and_parts (place == y.version) ((e.table == y.cells.table) && is_eq (key_order e.key y.cells.key)) a.0 in
+        let d = and_parts (nat_lt e.from y.cells.till) (nat_lt y.cells.from e.till) a.1 in
         record {
           here = eq-eqb y.version place (sym (eqb-true place y.version b.0));
           shared = record {
             shared = c;
             one =
-                and_true _ (nat_le y.cells.from t && nat_lt t y.cells.till) (and_true (y.cells.table == y.cells.table) _ (eq-eqb y.cells.table y.cells.table refl) (key_itself y.cells.key))
-                (and_true (nat_le y.cells.from t) (nat_lt t y.cells.till) (late_too e.from y.cells.from) (early e.from y.cells.from y.cells.till d.0 some));
+                and_from _ (nat_le y.cells.from t && nat_lt t y.cells.till) (and_from (y.cells.table == y.cells.table) _ (eq-eqb y.cells.table y.cells.table refl) (key_itself y.cells.key))
+                (and_from (nat_le y.cells.from t) (nat_lt t y.cells.till) (late_too e.from y.cells.from) (early e.from y.cells.from y.cells.till d.0 some));
             two =
                 touched-cons e es c
-                ∙ or_later (touched es c) (covers e c)
-                (and_true _ (nat_le e.from t && nat_lt t e.till) b.1 (and_true (nat_le e.from t) (nat_lt t e.till) (late e.from y.cells.from 0) (early e.from y.cells.from e.till (begins lt) d.1)));
+                ∙ or_right (touched es c) (covers e c)
+                (and_from _ (nat_le e.from t && nat_lt t e.till) b.1 (and_from (nat_le e.from t) (nat_lt t e.till) (late e.from y.cells.from 0) (early e.from y.cells.from e.till (begins lt) d.1)));
           };
         }
 
@@ -107,16 +103,16 @@ drawn_well : (tables : ℕ → Option Table) (spaces : ℕ → Option Space) (n 
     → list_all (is_well below log) (drawn_all n xs) ≡ true
 drawn_well tables spaces n below log [] ends each = refl
 drawn_well tables spaces n below log (x ∷ xs) ends each =
-    let h = both (if (x.space == n) && nat_lt x.place below then has_ends log x.cells else true) (touches_end xs n below log) ends in
-    let g = both (is_touch tables spaces x) (list_all (is_touch tables spaces) xs) each in
-    let cells = (both (are_cells tables x.cells) (is_given spaces x.space x.place) (both (is_trace tables spaces x) _ g.0).0).0 in
-    let some = (both (nat_lt x.cells.from x.cells.till) _ (both (nat_lt x.cells.from x.cells.till && _) (option_map_or (is_key_of x.cells.key) (tables x.cells.table) false) cells).0).0 in
+    let h = and_parts (if (x.space == n) && nat_lt x.place below then has_ends log x.cells else true) (touches_end xs n below log) ends in
+    let g = and_parts (is_touch tables spaces x) (list_all (is_touch tables spaces) xs) each in
+    let cells = (and_parts (are_cells tables x.cells) (is_given spaces x.space x.place) (and_parts (is_trace tables spaces x) _ g.0).0).0 in
+    let some = (and_parts (nat_lt x.cells.from x.cells.till) _ (and_parts (nat_lt x.cells.from x.cells.till && _) (option_map_or (is_key_of x.cells.key) (tables x.cells.table) false) cells).0).0 in
     by_space (x.space == n) h.0 some (drawn_well tables spaces n below log xs h.1 g.1)
   where
     by_space : (b : Bool) → (if b && nat_lt x.place below then has_ends log x.cells else true) ≡ true → nat_lt x.cells.from x.cells.till ≡ true → list_all (is_well below log) (drawn_all n xs) ≡ true
         → list_all (is_well below log) (cons_option (then_some b (as_drawn x)) (drawn_all n xs)) ≡ true
     by_space true end some rest =
-        and_true (is_well below log (as_drawn x)) (list_all (is_well below log) (drawn_all n xs)) (and_true (nat_lt x.cells.from x.cells.till) (if nat_lt x.place below then has_ends log x.cells else true) some end) rest
+        and_from (is_well below log (as_drawn x)) (list_all (is_well below log) (drawn_all n xs)) (and_from (nat_lt x.cells.from x.cells.till) (if nat_lt x.place below then has_ends log x.cells else true) some end) rest
     by_space false end some rest = rest
 
 -- ---- the price
@@ -127,7 +123,7 @@ module _ (p : Parts) (d : Durable) (n : ℕ) (w : Workspace) (a : Space) (st : S
 
   -- the last place that was given is below the next
   last_given : nat_lt place w.next_place ≡ true
-  last_given = below a.next_place w.next_place (both (nat_le 1 a.next_place) _ (both _ (nat_le 1 a.next_place && _) ruled_is).1).0 (ap (λ (f : SpaceFields). f.next_place) is.fields)
+  last_given = below a.next_place w.next_place (and_parts (nat_le 1 a.next_place) _ (and_parts _ (nat_le 1 a.next_place && _) ruled_is).1).0 (ap (λ (f : SpaceFields). f.next_place) is.fields)
     where
       ruled_is : is_space (space_of p.spaces) a ≡ true
       ruled_is = (found-passes (λ (x : Space). x.number == n) (is_space (space_of p.spaces)) p.spaces a is.recorded (ruled_spaces p st.rules).each).1
@@ -139,10 +135,10 @@ module _ (p : Parts) (d : Durable) (n : ℕ) (w : Workspace) (a : Space) (st : S
   well =
       subst (λ k. list_all (is_well w.next_place w.lists.log) (drawn_all k p.touches) ≡ true) (sym is.record_number)
       (drawn_well (table_of p.tables) (space_of p.spaces) n w.next_place w.lists.log p.touches (st.touches.latest n w is.found).ends
-      (both (differ meet p.touches) (list_all (is_touch (table_of p.tables) (space_of p.spaces)) p.touches) (ruled p st.rules).touches).1)
+      (and_parts (differ meet p.touches) (list_all (is_touch (table_of p.tables) (space_of p.spaces)) p.touches) (ruled p st.rules).touches).1)
 
   apart : differ collide (drawn_all a.number p.touches) ≡ true
-  apart = view-apart a.number p.touches (both (differ meet p.touches) (list_all (is_touch (table_of p.tables) (space_of p.spaces)) p.touches) (ruled p st.rules).touches).0
+  apart = view-apart a.number p.touches (and_parts (differ meet p.touches) (list_all (is_touch (table_of p.tables) (space_of p.spaces)) p.touches) (ruled p st.rules).touches).0
 
   -- where entries end and what they touch is among the stretches of a test, what they meet is no more than these
   pub met_few : (tables : List Table) (es all : List Entry) (f : Cell → Bool) → All (IsReal tables) es → IsSteady all f → EndIn w.lists.log all → ((c : Cell) → touched es c ≡ true → f c ≡ true) → length (met_touches p a es) ≤ cut_count all f
@@ -156,23 +152,23 @@ module _ (p : Parts) (d : Durable) (n : ℕ) (w : Workspace) (a : Space) (st : S
       test x = not (is_clear (marks_of place a.log_length es) x)
 
       hit_of : (x : PieceRecord) → is_well w.next_place w.lists.log x ≡ true → test x ≡ true → Hit place es x
-      hit_of x good met = hit tables place a.log_length es x real (both (nat_lt x.cells.from x.cells.till) _ good).0 met
+      hit_of x good met = hit tables place a.log_length es x real (and_parts (nat_lt x.cells.from x.cells.till) _ good).0 met
 
       end_of : (x : PieceRecord) → is_well w.next_place w.lists.log x ≡ true → Hit place es x → has_ends w.lists.log x.cells ≡ true
       end_of x good h =
           let late : nat_lt x.version w.next_place ≡ true = ap (λ k. nat_lt k w.next_place) (eqb-true x.version place h.here) ∙ last_given in
-          sym (ap (λ b. if b then has_ends w.lists.log x.cells else true) late) ∙ (both (nat_lt x.cells.from x.cells.till) (if nat_lt x.version w.next_place then has_ends w.lists.log x.cells else true) good).1
+          sym (ap (λ b. if b then has_ends w.lists.log x.cells else true) late) ∙ (and_parts (nat_lt x.cells.from x.cells.till) (if nat_lt x.version w.next_place then has_ends w.lists.log x.cells else true) good).1
 
       meets : {x : PieceRecord} → Hit place es x → Meet (has_cell x.cells) f
       meets h = record { shared = h.shared.shared; one = h.shared.one; two = covered h.shared.shared h.shared.two }
 
       all_here : (ys : List PieceRecord) → list_all (is_well w.next_place w.lists.log) ys ≡ true → list_all (λ (x : PieceRecord). x.version == place) (filter test ys) ≡ true
       all_here [] good = refl
-      all_here (y ∷ ys) good = let h = both (is_well w.next_place w.lists.log y) (list_all (is_well w.next_place w.lists.log) ys) good in by_test (test y) refl h.0 (all_here ys h.1)
+      all_here (y ∷ ys) good = let h = and_parts (is_well w.next_place w.lists.log y) (list_all (is_well w.next_place w.lists.log) ys) good in by_test (test y) refl h.0 (all_here ys h.1)
         where
           by_test : (b : Bool) → test y ≡ b → is_well w.next_place w.lists.log y ≡ true → list_all (λ (x : PieceRecord). x.version == place) (filter test ys) ≡ true
               → list_all (λ (x : PieceRecord). x.version == place) (cond b (y ∷ filter test ys) (filter test ys)) ≡ true
-          by_test true met good rest = and_true (y.version == place) _ (hit_of y good met).here rest
+          by_test true met good rest = and_from (y.version == place) _ (hit_of y good met).here rest
           by_test false met good rest = rest
 
   -- and each of them counts twice

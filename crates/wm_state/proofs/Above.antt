@@ -1,6 +1,6 @@
 -- The versions on the path of a version above a base.
 use Rattle.std.proofs.Common.{◌≡◌, ◌≢◌, ℕ, ◌<◌, ◌==◌, nat_lt, Bool, true, false, ◌||◌, cond, List, [], ◌∷◌, refl, sym, ◌∙◌, ◌⊎◌, inl, inr, is_some, arith}
-use Rattle.std.proofs.lemmas.Bool.{cases_eq, eq-eqb, ne_eqb}
+use Rattle.std.proofs.lemmas.Bool.{cases_eq, eq-eqb, ne_eqb, and_parts, lt-ltb}
 use Rattle.std.specs.List.{list_all}
 use Rattle.wm_graph.specs.Parts.{Parts, table_of, row_of, version_of}
 use Rattle.wm_graph.specs.Rules.{keep_rules, differ, collide, is_piece}
@@ -13,7 +13,7 @@ use Rattle.wm_state.specs.Standing.{newest_first, is_above}
 use Rattle.wm_state.proofs.Apart.{Ruled, ruled}
 use Rattle.wm_state.proofs.Ending.{all_end, all_end-fewer}
 use Rattle.wm_state.proofs.Named.{version_below}
-use Rattle.wm_state.proofs.Tests.{both, all_if}
+use Rattle.wm_state.proofs.Tests.{all_if}
 
 -- nothing is above a version on its own path
 pub above-itself : (nodes : List Node) (base k : ℕ) → is_above nodes base base k ≡ false
@@ -68,11 +68,8 @@ ends-itself nodes base es (x ∷ xs) = rw (above-itself nodes base x.version) (e
 pub pieces_lower : (p : Parts) → keep_rules p ≡ true → (number : ℕ) → AllBelow number (newest_first p.versions) → list_all (λ (x : PieceRecord). nat_lt x.version number) p.pieces ≡ true
 pieces_lower p rules number below =
     all_if (is_piece (table_of p.tables) (version_of p.versions) (row_of p.rows) r.counters.next_stamp) (λ (x : PieceRecord). nat_lt x.version number)
-    (λ x is. lower x.version number (version_below p rules number below x.version (both (is_some (version_of p.versions x.version)) _ is).0))
-    p.pieces (both (differ collide p.pieces) _ r.pieces).1
+    (λ x is. lt-ltb x.version number (version_below p rules number below x.version (and_parts (is_some (version_of p.versions x.version)) _ is).0))
+    p.pieces (and_parts (differ collide p.pieces) _ r.pieces).1
   where
     r : Ruled p
     r = ruled p rules
-
-    lower : (m n : ℕ) → m < n → nat_lt m n ≡ true
-    lower m n lt = grind (arith, lt)

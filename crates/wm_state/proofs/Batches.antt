@@ -1,13 +1,14 @@
 -- What a store holds after a batch, in the order of the ids, is what the batch makes of what it held.
 use Rattle.std.proofs.Common.{◌≡◌, ◌≢◌, ℕ, ◌==◌, if◌then◌else◌, false, List, [], ◌∷◌, map, Option, Some, None, refl, sym, ap, ◌∙◌, ◌⊎◌, inl, inr}
-use Rattle.std.proofs.lemmas.Bool.{cases_eq, eq-eqb, ne_eqb}
+use Rattle.std.proofs.lemmas.Bool.{cases_eq, eq-eqb, ne_eqb, eqb-false, or_parts}
 use Rattle.std.specs.List.{list_any}
+use Rattle.wm_base.proofs.Plain.{unless_parts}
 use Rattle.wm_spec.specs.Records.{record_at, change_at, ids_differ, AreRecords, AreChanges}
 use Rattle.wm_spec.specs.declared.record.Record.{Record}
 use Rattle.wm_spec.specs.declared.record.stored.Stored.{Stored}
 use Rattle.wm_spec.specs.declared.record.batch.Change.{Change}
 use Rattle.wm_state.specs.ById.{by_id, Ascend, set_at, applied}
-use Rattle.wm_state.proofs.ById.{one_order, record_at-by_id, Ascend-by_id, record_at-set, Ascend-set, either-none, both-true, eqb-apart}
+use Rattle.wm_state.proofs.ById.{one_order, record_at-by_id, Ascend-by_id, record_at-set, Ascend-set}
 
 -- what a batch says of an id, over what was there
 abbrev pub over_it : Option (Option Record) → Option Record → Option Record
@@ -29,13 +30,13 @@ change_at-none id = refl
 unchanged : (id : ℕ) (cs : List Change) → list_any (λ other. other == id) (map (λ (c : Change). c.id) cs) ≡ false → change_at cs id ≡ None
 unchanged id [] e = change_at-none id
 unchanged id (c ∷ cs) e =
-    let both = either-none (c.id == id) (list_any (λ other. other == id) (map (λ (c : Change). c.id) cs)) e in
-    change_at-away c cs id (eqb-apart c.id id both.0) ∙ unchanged id cs both.1
+    let both = or_parts (c.id == id) (list_any (λ other. other == id) (map (λ (c : Change). c.id) cs)) e in
+    change_at-away c cs id (eqb-false c.id id both.0) ∙ unchanged id cs both.1
 
 differ-first : (c : Change) (cs : List Change) → AreChanges (c ∷ cs) → (change_at cs c.id ≡ None) × AreChanges cs
 unfolding ids_differ
 differ-first c cs e =
-    let both = both-true (list_any (λ other. other == c.id) (map (λ (c : Change). c.id) cs)) (ids_differ (map (λ (c : Change). c.id) cs)) e in
+    let both = unless_parts (list_any (λ other. other == c.id) (map (λ (c : Change). c.id) cs)) (ids_differ (map (λ (c : Change). c.id) cs)) e in
     (unchanged c.id cs both.0, both.1)
 
 pub Ascend-applied : (cs : List Change) (ss : List Stored) → Ascend ss → Ascend (applied cs ss)

@@ -1,7 +1,9 @@
 -- Records in the order of their ids are determined by what is found under each id.
-use Rattle.std.proofs.Common.{◌≡◌, ◌≢◌, ℕ, ◌<◌, ◌==◌, nat_lt, Bool, true, false, cond, ◌||◌, if◌then◌else◌, List, [], ◌∷◌, map, Option, Some, None, refl, sym, ap, ◌∙◌, ◌⊎◌, inl, inr, arith}
-use Rattle.std.proofs.lemmas.Bool.{cases_eq, eq-eqb, ne_eqb}
+use Rattle.std.proofs.Common.{◌≡◌, ◌≢◌, ℕ, ◌<◌, ◌==◌, nat_lt, Bool, true, false, cond, if◌then◌else◌, List, [], ◌∷◌, map, Option, Some, None, refl, sym, ap, ◌∙◌, ◌⊎◌, inl, inr, arith}
+use Rattle.std.proofs.lemmas.Bool.{cases_eq, eq-eqb, ne_eqb, eqb-false, ltb-true, or_parts, true≢false}
+use Rattle.std.proofs.lemmas.Option.{same_Some}
 use Rattle.std.specs.List.{list_any}
+use Rattle.wm_base.proofs.Plain.{none_some, not_less, unless_parts}
 use Rattle.wm_spec.specs.Records.{record_at, ids_differ, AreRecords}
 use Rattle.wm_spec.specs.declared.record.Record.{Record}
 use Rattle.wm_spec.specs.declared.record.stored.Stored.{Stored}
@@ -23,17 +25,11 @@ unfolding record_at
 record_at-below [] low id above e = refl
 record_at-below (s ∷ ss) low id above e = rw (ne_eqb s.id id (λ h. omega (arith, above.0, h, e))) (record_at-below ss low id above.1 e)
 
-AllAbove-less : (m n : ℕ) (ss : List Stored) → m < n → AllAbove n ss → AllAbove m ss
+pub AllAbove-less : (m n : ℕ) (ss : List Stored) → m < n → AllAbove n ss → AllAbove m ss
 AllAbove-less m n [] lt above = tt
 AllAbove-less m n (s ∷ ss) lt above = (omega (arith, lt, above.0), AllAbove-less m n ss lt above.1)
 
 -- ---- sorted records
-
-less : (m n : ℕ) → nat_lt m n ≡ true → m < n
-less m n e = grind (arith, e)
-
-not_less : (m n : ℕ) → nat_lt m n ≡ false → m ≢ n → n < m
-not_less m n e other = grind (arith, e, other)
 
 AllAbove-place : (low : ℕ) (s : Stored) (ts : List Stored) → low < s.id → AllAbove low ts → AllAbove low (place_by_id s ts)
 AllAbove-place low s [] lt above = (lt, tt)
@@ -48,9 +44,6 @@ pub record_at-place : (s : Stored) (ts : List Stored) (id : ℕ) → record_at t
 record_at-place s [] id fresh = refl
 record_at-place s (t ∷ ts) id fresh = by_test (nat_lt t.id s.id) refl (cases_eq t.id s.id) (record_at-place s ts id)
   where
-    none_some : (r : Record) (o : Option Record) → o ≡ None → o ≡ Some r → ⊥
-    none_some r o none some = cc
-
     swapped : t.id ≢ s.id → (record_at ts s.id ≡ None → record_at (place_by_id s ts) id ≡ record_at (s ∷ ts) id) → (s.id ≡ id) ⊎ (s.id ≢ id) → (t.id ≡ id) ⊎ (t.id ≢ id)
         → record_at (t ∷ place_by_id s ts) id ≡ record_at (s ∷ t ∷ ts) id
     swapped apart rest (inl here) (inl there) = absurd (apart (there ∙ sym here))
@@ -62,7 +55,7 @@ record_at-place s (t ∷ ts) id fresh = by_test (nat_lt t.id s.id) refl (cases_e
 
     by_test : (b : Bool) → nat_lt t.id s.id ≡ b → (t.id ≡ s.id) ⊎ (t.id ≢ s.id) → (record_at ts s.id ≡ None → record_at (place_by_id s ts) id ≡ record_at (s ∷ ts) id)
         → record_at (cond b (t ∷ place_by_id s ts) (s ∷ t ∷ ts)) id ≡ record_at (s ∷ t ∷ ts) id
-    by_test true e (inl same) rest = absurd (none_some t.record (record_at (t ∷ ts) s.id) fresh (record_at-here t ts s.id same))
+    by_test true e (inl same) rest = absurd (none_some (record_at (t ∷ ts) s.id) t.record fresh (record_at-here t ts s.id same))
     by_test true e (inr apart) rest = swapped apart rest (cases_eq s.id id) (cases_eq t.id id)
     by_test false e c rest = refl
 
@@ -70,25 +63,16 @@ Ascend-place : (s : Stored) (ts : List Stored) → record_at ts s.id ≡ None �
 Ascend-place s [] fresh sorted = (tt, tt)
 Ascend-place s (t ∷ ts) fresh sorted = by_test (nat_lt t.id s.id) refl (cases_eq t.id s.id) (λ f. Ascend-place s ts f sorted.1)
   where
-    none_some : (r : Record) (o : Option Record) → o ≡ None → o ≡ Some r → ⊥
-    none_some r o none some = cc
-
     by_test : (b : Bool) → nat_lt t.id s.id ≡ b → (t.id ≡ s.id) ⊎ (t.id ≢ s.id) → (record_at ts s.id ≡ None → Ascend (place_by_id s ts)) → Ascend (cond b (t ∷ place_by_id s ts) (s ∷ t ∷ ts))
-    by_test b e (inl same) rest = absurd (none_some t.record (record_at (t ∷ ts) s.id) fresh (record_at-here t ts s.id same))
-    by_test true e (inr apart) rest = (AllAbove-place t.id s ts (less t.id s.id e) sorted.0, rest (sym (record_at-away t ts s.id apart) ∙ fresh))
+    by_test b e (inl same) rest = absurd (none_some (record_at (t ∷ ts) s.id) t.record fresh (record_at-here t ts s.id same))
+    by_test true e (inr apart) rest = (AllAbove-place t.id s ts (ltb-true t.id s.id e) sorted.0, rest (sym (record_at-away t ts s.id apart) ∙ fresh))
     by_test false e (inr apart) rest = ((not_less t.id s.id e apart, AllAbove-less s.id t.id ts (not_less t.id s.id e apart) sorted.0), sorted)
 
 -- ---- the order of ids determines the list
 
-none_some : {A : Type 0} (r : A) (o : Option A) → o ≡ None → o ≡ Some r → ⊥
-none_some r o none some = cc
-
 pub record_at-none : (id : ℕ) → record_at [] id ≡ None
 unfolding record_at
 record_at-none id = refl
-
-some_record : (r q : Record) → Some r ≡ Some q → r ≡ q
-some_record r q e = cc
 
 stored_same : (s t : Stored) → s.id ≡ t.id → s.record ≡ t.record → s ≡ t
 stored_same s t e f = ap (λ (k : ℕ). made k s.record) e ∙ ap (λ (r : Record). made t.id r) f
@@ -98,8 +82,8 @@ stored_same s t e f = ap (λ (k : ℕ). made k s.record) e ∙ ap (λ (r : Recor
 
 pub one_order : (a b : List Stored) → Ascend a → Ascend b → ((id : ℕ) → record_at a id ≡ record_at b id) → a ≡ b
 one_order [] [] one two same = refl
-one_order [] (t ∷ ts) one two same = absurd (none_some t.record (record_at [] t.id) (record_at-none t.id) (same t.id ∙ record_at-here t ts t.id refl))
-one_order (s ∷ ss) [] one two same = absurd (none_some s.record (record_at [] s.id) (record_at-none s.id) (sym (same s.id) ∙ record_at-here s ss s.id refl))
+one_order [] (t ∷ ts) one two same = absurd (none_some (record_at [] t.id) t.record (record_at-none t.id) (same t.id ∙ record_at-here t ts t.id refl))
+one_order (s ∷ ss) [] one two same = absurd (none_some (record_at [] s.id) s.record (record_at-none s.id) (sym (same s.id) ∙ record_at-here s ss s.id refl))
 one_order (s ∷ ss) (t ∷ ts) one two same = by_order (cases_eq s.id t.id) (nat_lt s.id t.id) refl (one_order ss ts one.1 two.1)
   where
     tails : s.id ≡ t.id → (id : ℕ) → record_at ss id ≡ record_at ts id
@@ -111,51 +95,31 @@ one_order (s ∷ ss) (t ∷ ts) one two same = by_order (cases_eq s.id t.id) (na
 
     by_order : (s.id ≡ t.id) ⊎ (s.id ≢ t.id) → (b : Bool) → nat_lt s.id t.id ≡ b → (((id : ℕ) → record_at ss id ≡ record_at ts id) → ss ≡ ts) → (s ∷ ss) ≡ (t ∷ ts)
     by_order (inl e) b lt rest =
-        let first : s ≡ t = stored_same s t e (some_record s.record t.record (sym (record_at-here s ss t.id e) ∙ same t.id ∙ record_at-here t ts t.id refl)) in
+        let first : s ≡ t = stored_same s t e (same_Some s.record t.record (sym (record_at-here s ss t.id e) ∙ same t.id ∙ record_at-here t ts t.id refl)) in
         ap (λ (x : Stored). x ∷ ss) first ∙ ap (λ (xs : List Stored). t ∷ xs) (rest (tails e))
     by_order (inr apart) true lt rest =
-        absurd (none_some s.record (record_at (t ∷ ts) s.id)
-        (record_at-below (t ∷ ts) s.id s.id (less s.id t.id lt, AllAbove-less s.id t.id ts (less s.id t.id lt) two.0) refl)
+        absurd (none_some (record_at (t ∷ ts) s.id) s.record
+        (record_at-below (t ∷ ts) s.id s.id (ltb-true s.id t.id lt, AllAbove-less s.id t.id ts (ltb-true s.id t.id lt) two.0) refl)
         (sym (same s.id) ∙ record_at-here s ss s.id refl))
     by_order (inr apart) false lt rest =
-        absurd (none_some t.record (record_at (s ∷ ss) t.id)
+        absurd (none_some (record_at (s ∷ ss) t.id) t.record
         (record_at-below (s ∷ ss) t.id t.id (not_less s.id t.id lt apart, AllAbove-less t.id s.id ss (not_less s.id t.id lt apart) one.0) refl)
         (same t.id ∙ record_at-here t ts t.id refl))
 
 -- ---- records of different ids
 
-pub either-none : (a b : Bool) → (a || b) ≡ false → (a ≡ false) × (b ≡ false)
-either-none true b e = absurd (bool_apart e)
-  where
-    bool_apart : true ≡ false → ⊥
-    bool_apart e = cc
-either-none false b e = (refl, e)
-
-pub both-true : (a b : Bool) → (if a then false else b) ≡ true → (a ≡ false) × (b ≡ true)
-both-true true b e = absurd (bool_apart e)
-  where
-    bool_apart : false ≡ true → ⊥
-    bool_apart e = cc
-both-true false b e = (refl, e)
-
-pub eqb-apart : (m n : ℕ) → (m == n) ≡ false → m ≢ n
-eqb-apart m n e h = bool_apart (sym (eq-eqb m n h) ∙ e)
-  where
-    bool_apart : true ≡ false → ⊥
-    bool_apart e = cc
-
 differ-none : (id : ℕ) (ss : List Stored) → list_any (λ other. other == id) (map (λ (x : Stored). x.id) ss) ≡ false → record_at ss id ≡ None
 differ-none id [] e = record_at-none id
 differ-none id (t ∷ ts) e =
-    let both = either-none (t.id == id) (list_any (λ other. other == id) (map (λ (x : Stored). x.id) ts)) e in
-    record_at-away t ts id (eqb-apart t.id id both.0) ∙ differ-none id ts both.1
+    let both = or_parts (t.id == id) (list_any (λ other. other == id) (map (λ (x : Stored). x.id) ts)) e in
+    record_at-away t ts id (eqb-false t.id id both.0) ∙ differ-none id ts both.1
 
 abbrev ids : List Stored → List ℕ
 ids ss = map (λ (x : Stored). x.id) ss
 
 differ-first : (s : Stored) (ss : List Stored) → AreRecords (s ∷ ss) → (record_at ss s.id ≡ None) × AreRecords ss
 unfolding ids_differ
-differ-first s ss e = let both = both-true (list_any (λ other. other == s.id) (ids ss)) (ids_differ (ids ss)) e in (differ-none s.id ss both.0, both.1)
+differ-first s ss e = let both = unless_parts (list_any (λ other. other == s.id) (ids ss)) (ids_differ (ids ss)) e in (differ-none s.id ss both.0, both.1)
 
 -- sorted by id, each record is found as before
 pub record_at-by_id : (ss : List Stored) → AreRecords ss → (id : ℕ) → record_at (by_id ss) id ≡ record_at ss id
@@ -215,7 +179,7 @@ Ascend-set id becomes (s ∷ ss) sorted = by_test (cases_eq s.id id) (nat_lt id 
   where
     by_test : (s.id ≡ id) ⊎ (s.id ≢ id) → (b : Bool) → nat_lt id s.id ≡ b → Ascend (set_at id becomes ss) → Ascend (set_at id becomes (s ∷ ss))
     by_test (inl here) b e rest = rw (eq-eqb _ _ here) (Ascend-perhaps id becomes ss (rw here at sorted.0) sorted.1)
-    by_test (inr away) true e rest = rw (ne_eqb _ _ away, e) (Ascend-perhaps id becomes (s ∷ ss) (less id s.id e, AllAbove-less id s.id ss (less id s.id e) sorted.0) sorted)
+    by_test (inr away) true e rest = rw (ne_eqb _ _ away, e) (Ascend-perhaps id becomes (s ∷ ss) (ltb-true id s.id e, AllAbove-less id s.id ss (ltb-true id s.id e) sorted.0) sorted)
     by_test (inr away) false e rest = rw (ne_eqb _ _ away, e) (AllAbove-set s.id id becomes ss (not_less id s.id e (λ h. away (sym h))) sorted.0, rest)
 
 pub record_at-set : (id : ℕ) (becomes : Option Record) (ss : List Stored) → Ascend ss → (other : ℕ) → record_at (set_at id becomes ss) other ≡ (if other == id then becomes else record_at ss other)
@@ -241,5 +205,5 @@ record_at-set id becomes (s ∷ ss) sorted other = by_test (cases_eq s.id id) (n
     by_test (inl here) b e rest = rw (eq-eqb _ _ here) (record_at-perhaps id becomes ss other (record_at-below ss s.id id sorted.0 (sym here)) ∙ dropped here (cases_eq other id))
     by_test (inr away) true e rest =
         rw (ne_eqb _ _ away, e) (record_at-perhaps id becomes (s ∷ ss) other
-        (record_at-below (s ∷ ss) id id (less id s.id e, AllAbove-less id s.id ss (less id s.id e) sorted.0) refl))
+        (record_at-below (s ∷ ss) id id (ltb-true id s.id e, AllAbove-less id s.id ss (ltb-true id s.id e) sorted.0) refl))
     by_test (inr away) false e rest = rw (ne_eqb _ _ away, e) (behind away (cases_eq other id) (cases_eq s.id other) rest)

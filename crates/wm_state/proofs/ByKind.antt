@@ -1,9 +1,11 @@
 -- What a change of one record makes of the records of each kind.
-use Rattle.std.proofs.Common.{◌≡◌, ◌≢◌, ℕ, ◌<◌, nat_lt, Bool, true, false, List, [], ◌∷◌, ◌++◌, map, Option, Some, None, refl, sym, ap, subst, ◌∙◌, ◌⊎◌, inl, inr, append-nil, arith}
-use Rattle.std.proofs.lemmas.Bool.{cases_eq, eq-eqb, ne_eqb}
+use Rattle.std.proofs.Common.{◌≡◌, ◌≢◌, ℕ, ◌<◌, nat_lt, false, List, [], ◌∷◌, ◌++◌, map, Option, Some, None, refl, sym, ap, subst, ◌∙◌, ◌⊎◌, inl, inr, append-nil, arith}
+use Rattle.std.proofs.lemmas.Bool.{cases_eq, eq-eqb, ne_eqb, true≢false}
 use Rattle.std.proofs.lemmas.List.{map-append}
 use Rattle.std.proofs.lemmas.List.Elements.{filter_map-append}
-use Rattle.std.specs.List.{filter, filter_map}
+use Rattle.std.proofs.lemmas.Option.{same_Some}
+use Rattle.std.specs.List.{filter_map}
+use Rattle.wm_base.proofs.Plain.{none_some}
 use Rattle.wm_spec.specs.Records.{record_at}
 use Rattle.wm_spec.specs.declared.record.Record.{Record}
 use Rattle.wm_spec.specs.declared.record.stored.Stored.{Stored}
@@ -29,20 +31,14 @@ pub record Split (ss : List Stored) (id : ℕ) (r : Record) : Type 0 where
   pub is : ss ≡ front ++ stored id r ∷ back
 
 pub split_of : (ss : List Stored) (id : ℕ) (r : Record) → record_at ss id ≡ Some r → Split ss id r
-split_of [] id r found = absurd (none_some (record_at [] id) (record_at-none id) found)
-  where
-    none_some : (o : Option Record) → o ≡ None → o ≡ Some r → ⊥
-    none_some o none some = cc
+split_of [] id r found = absurd (none_some (record_at [] id) r (record_at-none id) found)
 split_of (s ∷ ss) id r found = by_id (cases_eq s.id id) (split_of ss id r)
   where
-    some_record : (a b : Record) → Some a ≡ Some b → a ≡ b
-    some_record a b h = cc
-
     same_stored : s.id ≡ id → s.record ≡ r → s ≡ stored id r
     same_stored e f = ap (λ (k : ℕ). stored k s.record) e ∙ ap (stored id) f
 
     by_id : (s.id ≡ id) ⊎ (s.id ≢ id) → (record_at ss id ≡ Some r → Split ss id r) → Split (s ∷ ss) id r
-    by_id (inl here) rest = record { front = []; back = ss; is = ap (λ (x : Stored). x ∷ ss) (same_stored here (some_record s.record r (sym (record_at-here s ss id here) ∙ found))) }
+    by_id (inl here) rest = record { front = []; back = ss; is = ap (λ (x : Stored). x ∷ ss) (same_stored here (same_Some s.record r (sym (record_at-here s ss id here) ∙ found))) }
     by_id (inr away) rest = let q = rest (sym (record_at-away s ss id away) ∙ found) in record { front = s ∷ q.front; back = q.back; is = ap (λ (xs : List Stored). s ∷ xs) q.is }
 
 above-middle : (low : ℕ) (front back : List Stored) (s : Stored) → AllAbove low (front ++ s ∷ back) → low < s.id
@@ -91,38 +87,6 @@ kinds-more as_kind ss id r a some = kinds-append as_kind ss (stored id r ∷ [])
 
 pub kinds-no_more : {A : Type 0} (as_kind : Record → Option A) (ss : List Stored) (id : ℕ) (r : Record) → as_kind r ≡ None → kinds as_kind (ss ++ stored id r ∷ []) ≡ kinds as_kind ss
 kinds-no_more as_kind ss id r none = kinds-append as_kind ss (stored id r ∷ []) ∙ ap (λ xs. kinds as_kind ss ++ xs) (rw none refl) ∙ append-nil (kinds as_kind ss)
-
--- records that a test of their kind lets go
-pub kinds-filter : {A : Type 0} (as_kind : Record → Option A) (keep : Stored → Bool) (test : A → Bool) → ((s : Stored) (a : A) → as_kind s.record ≡ Some a → keep s ≡ test a) → (ss : List Stored)
-    → kinds as_kind (filter keep ss) ≡ filter test (kinds as_kind ss)
-kinds-filter as_kind keep test same [] = refl
-kinds-filter {A = A} as_kind keep test same (s ∷ ss) = by_kind (as_kind s.record) refl (keep s) refl (kinds-filter as_kind keep test same ss)
-  where
-    put : Option A → List A → List A
-    put None xs = xs
-    put (Some a) xs = a ∷ xs
-
-    by_kind : (o : Option A) → as_kind s.record ≡ o → (b : Bool) → keep s ≡ b → kinds as_kind (filter keep ss) ≡ filter test (kinds as_kind ss)
-        → kinds as_kind (filter keep (s ∷ ss)) ≡ filter test (kinds as_kind (s ∷ ss))
-    by_kind None e true h rest = rw (h, e) rest
-    by_kind None e false h rest = rw (h, e) rest
-    by_kind (Some a) e true h rest = rw (h, e, sym (same s a e) ∙ h) (ap (λ xs. a ∷ xs) rest)
-    by_kind (Some a) e false h rest = rw (h, e, sym (same s a e) ∙ h) rest
-
--- and a kind that it keeps
-pub kinds-kept : {A : Type 0} (as_kind : Record → Option A) (keep : Stored → Bool) → ((s : Stored) (a : A) → as_kind s.record ≡ Some a → keep s ≡ true) → (ss : List Stored)
-    → kinds as_kind (filter keep ss) ≡ kinds as_kind ss
-kinds-kept as_kind keep kept [] = refl
-kinds-kept {A = A} as_kind keep kept (s ∷ ss) = by_kind (as_kind s.record) refl (keep s) refl (kinds-kept as_kind keep kept ss)
-  where
-    bool_apart : true ≡ false → ⊥
-    bool_apart e = cc
-
-    by_kind : (o : Option A) → as_kind s.record ≡ o → (b : Bool) → keep s ≡ b → kinds as_kind (filter keep ss) ≡ kinds as_kind ss → kinds as_kind (filter keep (s ∷ ss)) ≡ kinds as_kind (s ∷ ss)
-    by_kind None e true h rest = rw (h, e) rest
-    by_kind None e false h rest = rw (h, e) rest
-    by_kind (Some a) e true h rest = rw (h, e) (ap (λ xs. a ∷ xs) rest)
-    by_kind (Some a) e false h rest = absurd (bool_apart (sym (kept s a e) ∙ h))
 
 -- a record that is found has an id below
 pub under_found : (n : ℕ) (ss : List Stored) (id : ℕ) (r : Record) → AllUnder n ss → record_at ss id ≡ Some r → id < n

@@ -1,6 +1,6 @@
 -- Counters that a batch moves, and those of the state that the records stand for.
 use Rattle.std.proofs.Common.{◌≡◌, ◌≢◌, ℕ, ◌≤◌, ◌+◌, ◌^◌, ◌&&◌, nat_lt, nat_le, true, false, [], ◌∷◌, refl, sym, ap, ◌∙◌, arith}
-use Rattle.std.proofs.lemmas.Bool.{ne_eqb}
+use Rattle.std.proofs.lemmas.Bool.{ne_eqb, and_parts}
 use Rattle.wm_base.specs.declared.instant.TheConstants.{END}
 use Rattle.wm_graph.specs.Parts.{Parts}
 use Rattle.wm_graph.specs.Rules.{keep_rules, are_counters}
@@ -14,7 +14,6 @@ use Rattle.wm_state.specs.Standing.{CountersStand, Stands}
 use Rattle.wm_state.specs.State.{Durable}
 use Rattle.wm_state.proofs.Apart.{ruled}
 use Rattle.wm_state.proofs.Growing.{same_counters}
-use Rattle.wm_state.proofs.Tests.{both}
 
 -- ---- counters in order
 
@@ -34,11 +33,11 @@ record Counted (c : Counters) : Type 0 where
 -- told of counters that pass the test
 counted_so : (c : Counters) → are_counters c ≡ true → Counted c
 counted_so c e =
-    let h = both ((nat_le 1 c.limit && nat_le c.limit 1048576) && (nat_le 1 c.next_stamp && nat_le c.next_stamp (c.limit + 1))) _ e in
-    let f = both (nat_le 1 c.limit && nat_le c.limit 1048576) (nat_le 1 c.next_stamp && nat_le c.next_stamp (c.limit + 1)) h.0 in
-    let s = both (nat_le 1 c.next_stamp) (nat_le c.next_stamp (c.limit + 1)) f.1 in
-    let g = both (nat_lt c.last_moment END) (nat_le c.work (2 ^ 62) && nat_le c.next_version (c.work + 2)) h.1 in
-    let k = both (nat_le c.work (2 ^ 62)) (nat_le c.next_version (c.work + 2)) g.1 in
+    let h = and_parts ((nat_le 1 c.limit && nat_le c.limit 1048576) && (nat_le 1 c.next_stamp && nat_le c.next_stamp (c.limit + 1))) _ e in
+    let f = and_parts (nat_le 1 c.limit && nat_le c.limit 1048576) (nat_le 1 c.next_stamp && nat_le c.next_stamp (c.limit + 1)) h.0 in
+    let s = and_parts (nat_le 1 c.next_stamp) (nat_le c.next_stamp (c.limit + 1)) f.1 in
+    let g = and_parts (nat_lt c.last_moment END) (nat_le c.work (2 ^ 62) && nat_le c.next_version (c.work + 2)) h.1 in
+    let k = and_parts (nat_le c.work (2 ^ 62)) (nat_le c.next_version (c.work + 2)) g.1 in
     record { limit = f.0; stamped = s.0; left = s.1; early = g.0; work = k.0; versions = k.1 }
 
 -- the work has room

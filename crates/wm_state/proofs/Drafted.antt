@@ -1,12 +1,13 @@
 -- What the batches that make a table and make one ready make of the records.
 use Rattle.std.proofs.Common.{◌≡◌, ◌≢◌, ◌≤◌, ◌<◌, ℕ, ◌+◌, Bool, true, false, List, [], ◌∷◌, Some, refl, sym, ap, subst, ◌∙◌, arith}
+use Rattle.std.proofs.lemmas.Option.{same_Some}
+use Rattle.std.proofs.lemmas.Bool.{true≢false}
 use Rattle.std.specs.Option.{option_map, unwrap_or}
 use Rattle.std.specs.declared.alloc.Global.{Global}
 use Rattle.std.specs.declared.vec.Vec.{Vec}
 use Rattle.wm_graph.specs.Parts.{parts_of}
 use Rattle.wm_graph.specs.Rules.{are_counters, has_key, keep_rules}
 use Rattle.wm_spec.specs.Records.{AreChanges, ids_differ, record_at}
-use Rattle.wm_spec.specs.declared.record.Record.{Record}
 use Rattle.wm_spec.specs.declared.record.Record.TheVariants as records
 use Rattle.wm_spec.specs.declared.record.batch.Change.{Change}
 use Rattle.wm_spec.specs.declared.record.counters.Counters.{Counters}
@@ -30,7 +31,6 @@ use Rattle.wm_state.proofs.Planned.{Readied, agree_created, agree_readied, parts
 use Rattle.wm_state.proofs.Planning.{parts-created}
 use Rattle.wm_state.proofs.RowsStay.{new_apart, row_apart, rows_stay}
 use Rattle.wm_state.proofs.Tables.{MayCreate, keep-created}
-use Rattle.wm_state.proofs.Tests.{bool_apart}
 use Rattle.wm_state.proofs.WorkedOn.{counted_put, first_change}
 
 -- ---- nothing
@@ -102,9 +102,9 @@ drafts_created rs m work t c counters_id id rules can_work can one there sorted 
   kept = refl;
   counted = λ some. counted_put rs work counters_id c (moved c m work) (create_batch counters_id (moved c m work) id t) sorted one once (first_change counters_id _ _) keeps refl;
   nothing = some_edit (edits.Create t) [] (create_batch counters_id (moved c m work) id t);
-  few = λ forks. absurd (bool_apart (sym forks));
+  few = λ forks. absurd (true≢false (sym forks));
   spared = λ n entries one_append. absurd (no_append n entries one_append);
-  turned = λ left. absurd (bool_apart (sym left));
+  turned = λ left. absurd (true≢false (sym left));
 }
   where
     no_append : (n : ℕ) (entries : Vec NewEntry Global) → edits.Create t ∷ [] ≡ edits.Append n entries ∷ [] → ⊥
@@ -151,9 +151,9 @@ drafts_enabled rs m work name valid history t c counters_id id rules can_work na
   kept = refl;
   counted = λ some. counted_put rs work counters_id c (moved c m work) (enable_batch counters_id (moved c m work) id how t) sorted one once (first_change counters_id _ _) keeps refl;
   nothing = some_edit (edits.Enable name valid history) [] (enable_batch counters_id (moved c m work) id how t);
-  few = λ forks. absurd (bool_apart (sym forks));
+  few = λ forks. absurd (true≢false (sym forks));
   spared = λ n entries one_append. absurd (no_append n entries one_append);
-  turned = λ left. absurd (bool_apart (sym left));
+  turned = λ left. absurd (true≢false (sym left));
 }
   where
     no_append : (n : ℕ) (entries : Vec NewEntry Global) → edits.Enable name valid history ∷ [] ≡ edits.Append n entries ∷ [] → ⊥
@@ -162,14 +162,11 @@ drafts_enabled rs m work name valid history t c counters_id id rules can_work na
     how : Readiness
     how = record { valid = valid; history = history }
 
-    some_record : (a b : Record) → Some a ≡ Some b → a ≡ b
-    some_record a b h = cc
-
     kinds_apart : records.Counters c ≡ records.Table t → ⊥
     kinds_apart e = cc
 
     apart : counters_id ≢ id
-    apart e = kinds_apart (some_record _ _ (sym there ∙ ap (record_at rs) e ∙ found))
+    apart e = kinds_apart (same_Some _ _ (sym there ∙ ap (record_at rs) e ∙ found))
 
     counts_well : are_counters (moved c m work) ≡ true
     counts_well = moved_well (parts_of rs) m work c rules can_work one

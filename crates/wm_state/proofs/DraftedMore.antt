@@ -1,6 +1,7 @@
 -- Drafts of edits behind those of others, and the room that is left for their work.
 use Rattle.std.proofs.Common.{◌≡◌, ℕ, ◌+◌, ◌*◌, ◌<◌, ◌≤◌, nat_lt, true, false, List, [], ◌∷◌, ◌++◌, length, length-append, refl, sym, ap, subst, ◌∙◌, arith}
 use Rattle.std.proofs.lemmas.List.Folds.{list_all-append}
+use Rattle.std.proofs.lemmas.Bool.{and_parts}
 use Rattle.std.specs.List.{list_all}
 use Rattle.wm_graph.specs.Parts.{Parts, parts_of}
 use Rattle.wm_graph.specs.Rules.{keep_rules}
@@ -18,7 +19,6 @@ use Rattle.wm_state.specs.declared.edit.Edit.TheVariants as edits
 use Rattle.wm_state.proofs.EditedLater.{drafted_append}
 use Rattle.wm_state.proofs.Following.{AreChanges-followed, all_followed, applied_followed, length-followed}
 use Rattle.wm_state.proofs.Growing.{same_counters}
-use Rattle.wm_state.proofs.Tests.{both}
 
 -- ---- drafts behind others
 
@@ -86,11 +86,11 @@ drafts_followed rs k l m e (f ∷ fs) es cs ds sorted one some two = record {
       (works_more (parts_of rs) (parts_of (applied cs rs)) (parts_of (applied ds (applied cs rs))) k l (one.counted some) (two.counted (one_there e es)));
   nothing = not_none f e fs es (followed_by cs ds);
   few = λ forks.
-      let h = both (list_all is_fork (f ∷ fs)) (list_all is_fork (e ∷ es)) (sym (list_all-append is_fork (f ∷ fs) (e ∷ es)) ∙ forks) in
+      let h = and_parts (list_all is_fork (f ∷ fs)) (list_all is_fork (e ∷ es)) (sym (list_all-append is_fork (f ∷ fs) (e ∷ es)) ∙ forks) in
       few_each rs cs ds (f ∷ fs) (e ∷ es) sorted (one.few h.0) (two.few h.1);
   spared = λ n entries alone. absurd (two_edits (edits.Append n entries) fs alone);
   turned = λ left.
-      let h = both (list_all leaves_turns (f ∷ fs)) (list_all leaves_turns (e ∷ es)) (sym (list_all-append leaves_turns (f ∷ fs) (e ∷ es)) ∙ left) in
+      let h = and_parts (list_all leaves_turns (f ∷ fs)) (list_all leaves_turns (e ∷ es)) (sym (list_all-append leaves_turns (f ∷ fs) (e ∷ es)) ∙ left) in
       ap (λ (ss : List Stored). (parts_of ss).turns) same ∙ two.turned h.1 ∙ one.turned h.0;
 }
   where

@@ -1,8 +1,9 @@
 -- The records with one table ready for rows.
 use Rattle.std.proofs.Common.{◌≡◌, ◌≢◌, ℕ, ◌≤◌, ◌==◌, nat_lt, nat_le, Bool, true, false, not, ◌&&◌, cond, if◌then◌else◌, List, [], ◌∷◌, ◌++◌, Some, refl, sym, ap, ◌∙◌, ◌⊎◌, inl, inr, length, length-append}
-use Rattle.std.proofs.lemmas.Bool.{cases_eq, eq-eqb, ne_eqb}
+use Rattle.std.proofs.lemmas.Bool.{cases_eq, eq-eqb, ne_eqb, and_from, and_parts, eqb-false, le-leb, not-true, or_parts, true≢false}
 use Rattle.std.specs.List.{list_all, list_any}
 use Rattle.std.specs.Str.{bytes_eq}
+use Rattle.wm_base.proofs.Plain.{nat_le-itself}
 use Rattle.wm_graph.specs.Parts.{Parts, table_of}
 use Rattle.wm_graph.specs.Rules.{keep_rules, are_counters, are_key_columns, are_tables, has_key, is_table, are_versions, differ}
 use Rattle.wm_spec.specs.declared.record.counters.Counters.{Counters}
@@ -10,10 +11,10 @@ use Rattle.wm_spec.specs.declared.record.table.Table.{Table}
 use Rattle.wm_state.specs.State.{Durable, Readiness, enabled}
 use Rattle.wm_state.specs.Batches.{ready}
 use Rattle.wm_state.specs.Standing.{by_number, place_table, CountersStand, TablesStand, FieldsStand, Stands}
-use Rattle.wm_state.proofs.Tests.{bool_apart, both, and_true, not_true, either_false, all_swap, all_middle, differ_swap}
+use Rattle.wm_state.proofs.Tests.{all_swap, all_middle, differ_swap}
 use Rattle.wm_state.proofs.Apart.{Ruled, ruled, keeps_all}
 use Rattle.wm_state.proofs.Standing.{FieldsStand-retabled, Stands-retabled}
-use Rattle.wm_state.proofs.Keeping.{le_of, le_itself, KeepTables, KeepTables-swap, KeepSpaces-same, KeepVersions-same, KeepRows-same, are_savepoints-kept, are_rows-kept, are_pieces-kept, are_hists-kept, few-same}
+use Rattle.wm_state.proofs.Keeping.{KeepTables, KeepTables-swap, KeepSpaces-same, KeepVersions-same, KeepRows-same, are_savepoints-kept, are_rows-kept, are_pieces-kept, are_hists-kept, few-same}
 use Rattle.wm_state.proofs.KeepingTurns.{are_locks-kept, are_marks-kept, are_touches-kept}
 use Rattle.wm_state.proofs.Ready.{KeepReady-enabled, tables_found}
 
@@ -25,18 +26,18 @@ readied p c front how t back = record p { counters = c ∷ []; tables = front ++
 
 table_ready : (how : Readiness) (t : Table) → has_key t ≡ true → is_table t ≡ true → is_table (ready how t) ≡ true
 table_ready how t key e =
-    let h = both _ (are_key_columns t && (if t.versioned then has_key t else true)) e in
-    let g = both (are_key_columns t) (if t.versioned then has_key t else true) h.1 in
-    and_true _ (are_key_columns t && has_key t) h.0 (and_true (are_key_columns t) (has_key t) g.0 key)
+    let h = and_parts _ (are_key_columns t && (if t.versioned then has_key t else true)) e in
+    let g = and_parts (are_key_columns t) (if t.versioned then has_key t else true) h.1 in
+    and_from _ (are_key_columns t && has_key t) h.0 (and_from (are_key_columns t) (has_key t) g.0 key)
 
 tables_ready : (front back : List Table) (how : Readiness) (t : Table) → has_key t ≡ true → are_tables (front ++ t ∷ back) ≡ true → are_tables (front ++ ready how t ∷ back) ≡ true
 tables_ready front back how t key e =
-    let h = both (nat_le (length (front ++ t ∷ back)) 256) (differ (λ (t u : Table). t.number == u.number) (front ++ t ∷ back) && (differ (λ (t u : Table). bytes_eq t.name u.name) (front ++ t ∷ back) && list_all is_table (front ++ t ∷ back))) e in
-    let g = both (differ (λ (t u : Table). t.number == u.number) (front ++ t ∷ back)) (differ (λ (t u : Table). bytes_eq t.name u.name) (front ++ t ∷ back) && list_all is_table (front ++ t ∷ back)) h.1 in
-    let k = both (differ (λ (t u : Table). bytes_eq t.name u.name) (front ++ t ∷ back)) (list_all is_table (front ++ t ∷ back)) g.1 in
-    and_true (nat_le (length (front ++ ready how t ∷ back)) 256) _ (ap (λ n. nat_le n 256) (length-append front (ready how t ∷ back) ∙ sym (length-append front (t ∷ back))) ∙ h.0)
-    (and_true (differ (λ (t u : Table). t.number == u.number) (front ++ ready how t ∷ back)) _ (differ_swap (λ (t u : Table). t.number == u.number) t (ready how t) (λ x. refl) (λ x. refl) front back ∙ g.0)
-    (and_true (differ (λ (t u : Table). bytes_eq t.name u.name) (front ++ ready how t ∷ back)) (list_all is_table (front ++ ready how t ∷ back))
+    let h = and_parts (nat_le (length (front ++ t ∷ back)) 256) (differ (λ (t u : Table). t.number == u.number) (front ++ t ∷ back) && (differ (λ (t u : Table). bytes_eq t.name u.name) (front ++ t ∷ back) && list_all is_table (front ++ t ∷ back))) e in
+    let g = and_parts (differ (λ (t u : Table). t.number == u.number) (front ++ t ∷ back)) (differ (λ (t u : Table). bytes_eq t.name u.name) (front ++ t ∷ back) && list_all is_table (front ++ t ∷ back)) h.1 in
+    let k = and_parts (differ (λ (t u : Table). bytes_eq t.name u.name) (front ++ t ∷ back)) (list_all is_table (front ++ t ∷ back)) g.1 in
+    and_from (nat_le (length (front ++ ready how t ∷ back)) 256) _ (ap (λ n. nat_le n 256) (length-append front (ready how t ∷ back) ∙ sym (length-append front (t ∷ back))) ∙ h.0)
+    (and_from (differ (λ (t u : Table). t.number == u.number) (front ++ ready how t ∷ back)) _ (differ_swap (λ (t u : Table). t.number == u.number) t (ready how t) (λ x. refl) (λ x. refl) front back ∙ g.0)
+    (and_from (differ (λ (t u : Table). bytes_eq t.name u.name) (front ++ ready how t ∷ back)) (list_all is_table (front ++ ready how t ∷ back))
     (differ_swap (λ (t u : Table). bytes_eq t.name u.name) t (ready how t) (λ x. refl) (λ x. refl) front back ∙ k.0)
     (all_swap is_table is_table t (ready how t) front back (λ x is. is) (table_ready how t key (all_middle is_table t front back k.1)) k.1)))
 
@@ -46,12 +47,12 @@ keep-readied p new front how t back rules old key counted same = keeps_all q new
     (tables_ready front back how t key (ap are_tables (sym old) ∙ r.tables))
     r.spaces
     (ap (are_versions q) c.0 ∙ r.versions)
-    (are_savepoints-kept p q r.counters.work new.work (le_of r.counters.work new.work c.2) (KeepSpaces-same p q refl) (KeepVersions-same p q refl) refl (few-same p q r.counters.work refl r.savepoints) r.savepoints)
+    (are_savepoints-kept p q r.counters.work new.work (le-leb r.counters.work new.work c.2) (KeepSpaces-same p q refl) (KeepVersions-same p q refl) refl (few-same p q r.counters.work refl r.savepoints) r.savepoints)
     (are_rows-kept p q r.counters.next_stamp new.next_stamp stamps tables refl r.rows)
     (are_pieces-kept p q r.counters.next_stamp new.next_stamp stamps tables (KeepVersions-same p q refl) (KeepRows-same p q refl) refl r.pieces)
     (are_hists-kept p q r.counters.next_stamp new.next_stamp stamps tables (KeepSpaces-same p q refl) (KeepRows-same p q refl) refl r.hists)
     (are_touches-kept p q tables (KeepSpaces-same p q refl) refl r.touches)
-    (are_locks-kept p q r.counters.work new.work (le_of r.counters.work new.work c.2) tables (KeepSpaces-same p q refl) refl r.locks)
+    (are_locks-kept p q r.counters.work new.work (le-leb r.counters.work new.work c.2) tables (KeepSpaces-same p q refl) refl r.locks)
     (are_marks-kept p q tables (KeepSpaces-same p q refl) refl r.marks)
     r.turns
   where
@@ -68,7 +69,7 @@ keep-readied p new front how t back rules old key counted same = keeps_all q new
     tables = KeepTables-swap p q front back t (ready how t) refl refl refl old refl
 
     stamps : nat_le r.counters.next_stamp new.next_stamp ≡ true
-    stamps = ap (nat_le r.counters.next_stamp) c.1 ∙ le_itself r.counters.next_stamp
+    stamps = ap (nat_le r.counters.next_stamp) c.1 ∙ nat_le-itself r.counters.next_stamp
 
 -- ---- the tables by number
 
@@ -116,26 +117,23 @@ pub record AreOthers (n : ℕ) (front back : List Table) : Type 0 where
 
 other-if : (n : ℕ) (same : Table → Bool) → ((t : Table) → same t ≡ false → t.number ≢ n) → (ts : List Table) → list_any same ts ≡ false → is_other n ts
 other-if n same to [] e = tt
-other-if n same to (t ∷ ts) e = let h = either_false (same t) (list_any same ts) e in (to t h.0, other-if n same to ts h.1)
-
-eqb-apart : (a b : ℕ) → (a == b) ≡ false → a ≢ b
-eqb-apart a b e same = bool_apart (sym (eq-eqb a b same) ∙ e)
+other-if n same to (t ∷ ts) e = let h = or_parts (same t) (list_any same ts) e in (to t h.0, other-if n same to ts h.1)
 
 others_of : (t : Table) (front back : List Table) → differ (λ (t u : Table). t.number == u.number) (front ++ t ∷ back) ≡ true → AreOthers t.number front back
 others_of t [] back e =
-    let h = both (not (list_any (λ (u : Table). t.number == u.number) back)) (differ (λ (t u : Table). t.number == u.number) back) e in
+    let h = and_parts (not (list_any (λ (u : Table). t.number == u.number) back)) (differ (λ (t u : Table). t.number == u.number) back) e in
     record {
       before = tt;
-      behind = other-if t.number (λ (u : Table). t.number == u.number) (λ u apart same. eqb-apart t.number u.number apart (sym same)) back (not_true (list_any (λ (u : Table). t.number == u.number) back) h.0);
+      behind = other-if t.number (λ (u : Table). t.number == u.number) (λ u apart same. eqb-false t.number u.number apart (sym same)) back (not-true (list_any (λ (u : Table). t.number == u.number) back) h.0);
     }
 others_of t (y ∷ front) back e =
-    let h = both (not (list_any (λ (u : Table). y.number == u.number) (front ++ t ∷ back))) (differ (λ (t u : Table). t.number == u.number) (front ++ t ∷ back)) e in
+    let h = and_parts (not (list_any (λ (u : Table). y.number == u.number) (front ++ t ∷ back))) (differ (λ (t u : Table). t.number == u.number) (front ++ t ∷ back)) e in
     let r = others_of t front back h.1 in
-    record { before = (eqb-apart y.number t.number (middle (λ (u : Table). y.number == u.number) front back t (not_true (list_any (λ (u : Table). y.number == u.number) (front ++ t ∷ back)) h.0)), r.before); behind = r.behind }
+    record { before = (eqb-false y.number t.number (middle (λ (u : Table). y.number == u.number) front back t (not-true (list_any (λ (u : Table). y.number == u.number) (front ++ t ∷ back)) h.0)), r.before); behind = r.behind }
   where
     middle : (P : Table → Bool) (front back : List Table) (t : Table) → list_any P (front ++ t ∷ back) ≡ false → P t ≡ false
-    middle P [] back t e = (either_false (P t) (list_any P back) e).0
-    middle P (z ∷ front) back t e = middle P front back t (either_false (P z) (list_any P (front ++ t ∷ back)) e).1
+    middle P [] back t e = (or_parts (P t) (list_any P back) e).0
+    middle P (z ∷ front) back t e = middle P front back t (or_parts (P z) (list_any P (front ++ t ∷ back)) e).1
 
 sorted-ready : (how : Readiness) (t : Table) (front back : List Table) → is_other t.number front → is_other t.number back → by_number (front ++ ready how t ∷ back) ≡ enabled t.number how (by_number (front ++ t ∷ back))
 sorted-ready how t [] back before behind = enabled-here how t (by_number back) (other-sorted t.number back behind)
@@ -146,8 +144,8 @@ sorted-ready how t (y ∷ front) back before behind =
 alone_of : (p : Parts) (front back : List Table) (t : Table) → keep_rules p ≡ true → p.tables ≡ front ++ t ∷ back → AreOthers t.number front back
 alone_of p front back t rules old =
     let rule = ruled p rules in
-    let h = both (nat_le (length p.tables) 256) (differ (λ (t u : Table). t.number == u.number) p.tables && (differ (λ (t u : Table). bytes_eq t.name u.name) p.tables && list_all is_table p.tables)) rule.tables in
-    let g = both (differ (λ (t u : Table). t.number == u.number) p.tables) (differ (λ (t u : Table). bytes_eq t.name u.name) p.tables && list_all is_table p.tables) h.1 in
+    let h = and_parts (nat_le (length p.tables) 256) (differ (λ (t u : Table). t.number == u.number) p.tables && (differ (λ (t u : Table). bytes_eq t.name u.name) p.tables && list_all is_table p.tables)) rule.tables in
+    let g = and_parts (differ (λ (t u : Table). t.number == u.number) p.tables) (differ (λ (t u : Table). bytes_eq t.name u.name) p.tables && list_all is_table p.tables) h.1 in
     others_of t front back (ap (differ (λ (t u : Table). t.number == u.number)) (sym old) ∙ g.0)
 
 -- so it is found

@@ -1,6 +1,6 @@
 -- Records that keep the rules agree with some state in counters, tables, workspaces and savepoints: with one whose workspaces hold nothing.
 use Rattle.std.proofs.Common.{◌≡◌, ℕ, ◌==◌, Bool, true, false, cond, List, [], ◌∷◌, map, replicate, Option, Some, None, refl, sym, ap, ◌∙◌}
-use Rattle.std.proofs.lemmas.Bool.{eqb-true}
+use Rattle.std.proofs.lemmas.Bool.{eqb-true, and_parts, true≢false}
 use Rattle.std.proofs.lemmas.List.{length-map, length-replicate}
 use Rattle.std.specs.List.{filter, list_all}
 use Rattle.std.specs.Option.{option_map, option_map_or}
@@ -18,7 +18,6 @@ use Rattle.wm_state.proofs.Frames.{savepoints_of-found, savepoints_of-none}
 use Rattle.wm_state.proofs.Mapped.{differ-alike, find-passes}
 use Rattle.wm_state.proofs.Named.{ruled_savepoints}
 use Rattle.wm_state.proofs.Spaces.{ruled_spaces}
-use Rattle.wm_state.proofs.Tests.{bool_apart, both}
 
 -- ---- the state
 
@@ -103,13 +102,13 @@ saved_as_map (x ∷ xs) = ap (λ fs. saved_fields x ∷ fs) (saved_as_map xs)
 none_saved : (p : Parts) (work n : ℕ) (xs : List Record) → list_all (is_savepoint (space_of p.spaces) (version_of p.versions) work) xs ≡ true → space_of p.spaces n ≡ None → filter (λ (x : Record). x.space == n) xs ≡ []
 none_saved p work n [] all none = refl
 none_saved p work n (x ∷ xs) all none =
-    let h = both (is_savepoint (space_of p.spaces) (version_of p.versions) work x) (list_all (is_savepoint (space_of p.spaces) (version_of p.versions) work) xs) all in
-    by_test (x.space == n) refl (both _ (option_map_or (is_saved_in (version_of p.versions) x) (space_of p.spaces x.space) false) h.0).1 (none_saved p work n xs h.1 none)
+    let h = and_parts (is_savepoint (space_of p.spaces) (version_of p.versions) work x) (list_all (is_savepoint (space_of p.spaces) (version_of p.versions) work) xs) all in
+    by_test (x.space == n) refl (and_parts _ (option_map_or (is_saved_in (version_of p.versions) x) (space_of p.spaces x.space) false) h.0).1 (none_saved p work n xs h.1 none)
   where
     by_test : (b : Bool) → (x.space == n) ≡ b → option_map_or (is_saved_in (version_of p.versions) x) (space_of p.spaces x.space) false ≡ true → filter (λ (y : Record). y.space == n) xs ≡ []
         → cond b (x ∷ filter (λ (y : Record). y.space == n) xs) (filter (λ (y : Record). y.space == n) xs) ≡ []
     by_test true here is rest =
-        absurd (bool_apart (sym is ∙ ap (λ k. option_map_or (is_saved_in (version_of p.versions) x) (space_of p.spaces k) false) (eqb-true x.space n here) ∙ ap (λ o. option_map_or (is_saved_in (version_of p.versions) x) o false) none))
+        absurd (true≢false (sym is ∙ ap (λ k. option_map_or (is_saved_in (version_of p.versions) x) (space_of p.spaces k) false) (eqb-true x.space n here) ∙ ap (λ o. option_map_or (is_saved_in (version_of p.versions) x) o false) none))
     by_test false here is rest = rest
 
 -- ---- the law

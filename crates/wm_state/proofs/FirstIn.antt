@@ -1,6 +1,7 @@
 -- The first version of a workspace on a path.
 use Rattle.std.proofs.Common.{◌≡◌, ◌≢◌, ℕ, ◌<◌, ◌==◌, Bool, true, false, cond, List, [], ◌∷◌, Option, Some, None, is_some, refl, sym, ap, ◌∙◌, arith}
-use Rattle.std.proofs.lemmas.Bool.{eq-eqb, ne_eqb, eqb-true}
+use Rattle.std.proofs.lemmas.Bool.{eq-eqb, ne_eqb, eqb-true, true≢false}
+use Rattle.std.proofs.lemmas.Option.{same_Some, none-some}
 use Rattle.std.specs.Option.{option_map, option_map_or}
 use Rattle.wm_graph.specs.Parts.{Parts, version_of}
 use Rattle.wm_graph.specs.Rules.{keep_rules, is_version_of}
@@ -9,7 +10,6 @@ use Rattle.wm_tree.specs.Versions.{version_in, AllBelow}
 use Rattle.wm_tree.specs.declared.version.Version.{Version as Node}
 use Rattle.wm_state.specs.Standing.{node_of, newest_first, first_in}
 use Rattle.wm_state.specs.Effects.{IsLeaf}
-use Rattle.wm_state.proofs.Tests.{bool_apart}
 use Rattle.wm_state.proofs.Newest.{Descend, below-apart, version_in-newest}
 use Rattle.wm_state.proofs.Apart.{ruled, ruled_versions}
 use Rattle.wm_state.proofs.Named.{among-below}
@@ -28,7 +28,7 @@ ruled_of p rules version space is =
     by_version (version_of p.versions version) (version_in-newest p.versions (ruled_versions p (ruled p rules).counters.next_version (ruled p rules).versions).numbers version) is
   where
     by_version : (o : Option Version) → version_in (newest_first p.versions) version ≡ option_map node_of o → option_map_or (λ (v : Version). v.space == space) o false ≡ true → IsOf (newest_first p.versions) version space
-    by_version None found h = absurd (bool_apart (sym h))
+    by_version None found h = absurd (true≢false (sym h))
     by_version (Some v) found h = record { node = node_of v; found = found; is = eqb-true v.space space h }
 
 -- it is below what all are below
@@ -39,28 +39,16 @@ of-below nodes n version space below is = among-below nodes n version below (ap 
 pub of-more : (x : Node) (older : List Node) (version space : ℕ) → (x.number == version) ≡ false → IsOf older version space → IsOf (x ∷ older) version space
 of-more x older version space away is = record { node = is.node; found = ap (λ b. cond b (Some x) (version_in older version)) away ∙ is.found; is = is.is }
 
-pub of-less : (x : Node) (older : List Node) (version space : ℕ) → (x.number == version) ≡ false → IsOf (x ∷ older) version space → IsOf older version space
-of-less x older version space away is = record { node = is.node; found = ap (λ b. cond b (Some x) (version_in older version)) (sym away) ∙ is.found; is = is.is }
-
 -- ---- what is first
-
-some_same : (a b : ℕ) → Some a ≡ Some b → a ≡ b
-some_same a b e = cc
 
 -- a version is the first of its own workspace on its path
 pub first-itself : (nodes : List Node) (version space : ℕ) → IsOf nodes version space → first_in nodes space version ≡ Some version
-first-itself [] version space is = absurd (none_some is.node is.found)
-  where
-    none_some : (y : Node) → (let nothing : Option Node = None in nothing) ≡ Some y → ⊥
-    none_some y h = cc
+first-itself [] version space is = absurd (none-some is.node is.found)
 first-itself (x ∷ older) version space is = by_number (x.number == version) refl is.found (first-itself older version space)
   where
-    some_node : (a b : Node) → Some a ≡ Some b → a ≡ b
-    some_node a b e = cc
-
     by_number : (b : Bool) → (x.number == version) ≡ b → cond b (Some x) (version_in older version) ≡ Some is.node → (IsOf older version space → first_in older space version ≡ Some version)
         → cond b (cond (x.space == space) (Some version) (first_in older space x.parent)) (first_in older space version) ≡ Some version
-    by_number true e found rest = ap (λ b. cond b (Some version) (first_in older space x.parent)) (eq-eqb _ _ (ap (λ (y : Node). y.space) (some_node x is.node found) ∙ is.is))
+    by_number true e found rest = ap (λ b. cond b (Some version) (first_in older space x.parent)) (eq-eqb _ _ (ap (λ (y : Node). y.space) (same_Some x is.node found) ∙ is.is))
     by_number false e found rest = rest (record { node = is.node; found = found; is = is.is })
 
 -- what is first is a version of the workspace
@@ -75,7 +63,7 @@ first-of (x ∷ older) down space version first found =
     by_test : (a b : Bool) → (x.number == version) ≡ a → (x.space == space) ≡ b → cond a (cond b (Some version) (first_in older space x.parent)) (first_in older space version) ≡ Some first
         → (first_in older space x.parent ≡ Some first → IsOf older first space) → (first_in older space version ≡ Some first → IsOf older first space) → IsOf (x ∷ older) first space
     by_test true true e h is up along =
-        record { node = x; found = ap (λ b. cond b (Some x) (version_in older first)) (eq-eqb _ _ (eqb-true x.number version e ∙ some_same version first is)); is = eqb-true x.space space h }
+        record { node = x; found = ap (λ b. cond b (Some x) (version_in older first)) (eq-eqb _ _ (eqb-true x.number version e ∙ same_Some version first is)); is = eqb-true x.space space h }
     by_test true false e h is up along = more (up is)
     by_test false b e h is up along = more (along is)
 
@@ -108,7 +96,7 @@ first-parent leaf (x ∷ older) space version first above away found =
   where
     by_test : (a b : Bool) → cond a (cond b (Some version) (first_in older space x.parent)) (first_in older space version) ≡ Some first
         → (first_in older space x.parent ≡ Some first → (first == leaf) ≡ false) → (first_in older space version ≡ Some first → (first == leaf) ≡ false) → (first == leaf) ≡ false
-    by_test true true is up along = ap (λ k. k == leaf) (sym (some_same version first is)) ∙ away
+    by_test true true is up along = ap (λ k. k == leaf) (sym (same_Some version first is)) ∙ away
     by_test true false is up along = up is
     by_test false b is up along = along is
 
@@ -118,12 +106,9 @@ first-apart leaf [] n space version first above other is found = cc
 first-apart leaf (x ∷ older) n space version first above other is found =
     by_number (x.number == version) is.found found (first-apart leaf older n space version first above.1 other)
   where
-    some_node : (a b : Node) → Some a ≡ Some b → a ≡ b
-    some_node a b e = cc
-
     by_number : (b : Bool) → cond b (Some x) (version_in older version) ≡ Some is.node → cond b (cond (x.space == space) (Some version) (first_in older space x.parent)) (first_in older space version) ≡ Some first
         → (IsOf older version n → first_in older space version ≡ Some first → (first == leaf) ≡ false) → (first == leaf) ≡ false
     by_number true there got rest =
         first-parent leaf older space x.parent first above.1 above.0
-        (ap (λ b. cond b (Some version) (first_in older space x.parent)) (sym (ne_eqb _ _ (λ same. other (sym is.is ∙ ap (λ (y : Node). y.space) (sym (some_node x is.node there)) ∙ same)))) ∙ got)
+        (ap (λ b. cond b (Some version) (first_in older space x.parent)) (sym (ne_eqb _ _ (λ same. other (sym is.is ∙ ap (λ (y : Node). y.space) (sym (same_Some x is.node there)) ∙ same)))) ∙ got)
     by_number false there got rest = rest (record { node = is.node; found = there; is = is.is }) got

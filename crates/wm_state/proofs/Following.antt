@@ -1,7 +1,8 @@
 -- What changes with others behind them make of records, and what is kept of both.
 use Rattle.std.proofs.Common.{◌≡◌, ◌≢◌, ◌⊎◌, inl, inr, ℕ, ◌+◌, ◌≤◌, ◌==◌, if◌then◌else◌, Bool, true, false, not, cond, List, [], ◌∷◌, ◌++◌, map, length, Option, refl, sym, ap, ◌∙◌, arith}
-use Rattle.std.proofs.lemmas.Bool.{cases_eq, eq-eqb, ne_eqb}
+use Rattle.std.proofs.lemmas.Bool.{cases_eq, eq-eqb, ne_eqb, and_from, and_parts, or_parts, true≢false}
 use Rattle.std.specs.List.{filter, list_all, list_any}
+use Rattle.wm_base.proofs.Plain.{unless_parts}
 use Rattle.wm_spec.specs.Records.{AreChanges, ids_differ, record_at}
 use Rattle.wm_spec.specs.declared.record.Record.{Record}
 use Rattle.wm_spec.specs.declared.record.batch.Change.{Change}
@@ -9,9 +10,10 @@ use Rattle.wm_spec.specs.declared.record.stored.Stored.{Stored}
 use Rattle.wm_state.specs.ById.{Ascend, applied, set_at}
 use Rattle.wm_state.specs.Drafts.{followed_by, is_change_of}
 use Rattle.wm_state.proofs.Batches.{Ascend-applied}
-use Rattle.wm_state.proofs.ById.{Ascend-set, both-true, one_order, record_at-set}
+use Rattle.wm_state.proofs.ById.{Ascend-set, one_order, record_at-set}
 use Rattle.wm_state.proofs.Putting.{set_other}
-use Rattle.wm_state.proofs.Tests.{all_filter, and_true, bool_apart, both, either_false}
+use Rattle.wm_state.proofs.Tests.{all_filter}
+use Rattle.wm_state.proofs.Planned.{applied-append}
 
 -- ---- one id behind changes
 
@@ -44,7 +46,7 @@ stay_same later [] id xs ys one two away same = same
 stay_same later (c ∷ cs) id xs ys one two away same = by_test (list_any (is_change_of c.id) later) refl (λ zs. stay_same later cs id zs (set_at c.id c.becomes ys))
   where
     out : list_any (is_change_of c.id) later ≡ true → c.id ≢ id
-    out goes here = bool_apart (sym goes ∙ ap (λ k. list_any (is_change_of k) later) here ∙ away)
+    out goes here = true≢false (sym goes ∙ ap (λ k. list_any (is_change_of k) later) here ∙ away)
 
     sorted : Ascend (set_at c.id c.becomes ys)
     sorted = Ascend-set c.id c.becomes ys two
@@ -58,15 +60,10 @@ stay_same later (c ∷ cs) id xs ys one two away same = by_test (list_any (is_ch
 
 -- ---- what they make of records
 
--- changes behind others, one after another
-applied_append : (cs ds : List Change) (rs : List Stored) → applied (cs ++ ds) rs ≡ applied ds (applied cs rs)
-applied_append [] ds rs = refl
-applied_append (c ∷ cs) ds rs = applied_append cs ds (set_at c.id c.becomes rs)
-
 -- the later changes make of the records what they make of what the first ones make of them
 pub applied_followed : (rs : List Stored) (cs ds : List Change) → Ascend rs → applied (followed_by cs ds) rs ≡ applied ds (applied cs rs)
 applied_followed rs cs ds sorted =
-    applied_append front ds rs
+    applied-append front ds rs
     ∙ one_order (applied ds (applied front rs)) (applied ds (applied cs rs)) (Ascend-applied ds (applied front rs) first) (Ascend-applied ds (applied cs rs) all)
     (λ id. applied_same ds id (applied front rs) (applied cs rs) first all (λ away. stay_same ds cs id rs rs sorted sorted away refl))
   where
@@ -84,14 +81,14 @@ applied_followed rs cs ds sorted =
 -- no later change is of the id
 none_later : (id : ℕ) (ds : List Change) → list_any (is_change_of id) ds ≡ false → list_any (λ other. other == id) (map (λ (c : Change). c.id) ds) ≡ false
 none_later id [] away = refl
-none_later id (d ∷ ds) away = let h = either_false (d.id == id) (list_any (is_change_of id) ds) away in rw (h.0, none_later id ds h.1) refl
+none_later id (d ∷ ds) away = let h = or_parts (d.id == id) (list_any (is_change_of id) ds) away in rw (h.0, none_later id ds h.1) refl
 
 -- nor one that stays
 none_there : (id : ℕ) (keep : Change → Bool) (cs ds : List Change) → list_any (λ other. other == id) (map (λ (c : Change). c.id) cs) ≡ false → list_any (is_change_of id) ds ≡ false
     → list_any (λ other. other == id) (map (λ (c : Change). c.id) (filter keep cs ++ ds)) ≡ false
 none_there id keep [] ds none away = none_later id ds away
 none_there id keep (c ∷ cs) ds none away =
-    let h = either_false (c.id == id) (list_any (λ other. other == id) (map (λ (c : Change). c.id) cs)) none in by_test (keep c) h.0 (none_there id keep cs ds h.1 away)
+    let h = or_parts (c.id == id) (list_any (λ other. other == id) (map (λ (c : Change). c.id) cs)) none in by_test (keep c) h.0 (none_there id keep cs ds h.1 away)
   where
     by_test : (b : Bool) → (c.id == id) ≡ false → list_any (λ other. other == id) (map (λ (c : Change). c.id) (filter keep cs ++ ds)) ≡ false
         → list_any (λ other. other == id) (map (λ (c : Change). c.id) (cond b (c ∷ filter keep cs) (filter keep cs) ++ ds)) ≡ false
@@ -106,7 +103,7 @@ once_more c rest none differ = rw none differ
 -- so is the first of changes
 once_parted : (c : Change) (rest : List Change) → AreChanges (c ∷ rest) → (list_any (λ other. other == c.id) (map (λ (x : Change). x.id) rest) ≡ false) × AreChanges rest
 unfolding ids_differ
-once_parted c rest differ = both-true (list_any (λ other. other == c.id) (map (λ (x : Change). x.id) rest)) (ids_differ (map (λ (x : Change). x.id) rest)) differ
+once_parted c rest differ = unless_parts (list_any (λ other. other == c.id) (map (λ (x : Change). x.id) rest)) (ids_differ (map (λ (x : Change). x.id) rest)) differ
 
 -- no id changes twice
 pub AreChanges-followed : (cs ds : List Change) → AreChanges cs → AreChanges ds → AreChanges (followed_by cs ds)
@@ -127,7 +124,7 @@ all_followed test cs ds one two = behind (filter (stays_before ds) cs) (all_filt
   where
     behind : (xs : List Change) → list_all test xs ≡ true → list_all test (xs ++ ds) ≡ true
     behind [] all = two
-    behind (x ∷ xs) all = let h = both (test x) (list_all test xs) all in and_true (test x) (list_all test (xs ++ ds)) h.0 (behind xs h.1)
+    behind (x ∷ xs) all = let h = and_parts (test x) (list_all test xs) all in and_from (test x) (list_all test (xs ++ ds)) h.0 (behind xs h.1)
 
 -- they are no more than both
 pub length-followed : (cs ds : List Change) → length (followed_by cs ds) ≤ length cs + length ds

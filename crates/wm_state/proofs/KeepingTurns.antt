@@ -1,6 +1,7 @@
 -- The rules on touches, locks, marks and turns hold of records in which all that they look up is there still: the laws are_touches-kept,
 -- are_locks-kept, are_marks-kept and are_turns-kept.
 use Rattle.std.proofs.Common.{◌≡◌, ℕ, ◌+◌, ◌==◌, nat_lt, nat_le, Bool, true, false, ◌&&◌, ◌||◌, cond, List, [], ◌∷◌, ◌++◌, Option, Some, None, is_some, refl, sym, ap, ◌∙◌}
+use Rattle.std.proofs.lemmas.Bool.{and_from, and_parts, true≢false}
 use Rattle.std.specs.List.{count_by, filter, list_all}
 use Rattle.wm_graph.specs.Parts.{Parts, table_of, space_of}
 use Rattle.wm_graph.specs.Rules.{are_cells, are_locks, are_marks, are_touches, are_turns, asked_turns, differ, has_turns, is_asked, is_given, is_lock, is_short, is_touch, is_trace, meet, same_turn}
@@ -9,7 +10,7 @@ use Rattle.wm_spec.specs.declared.record.space.Space.{Space}
 use Rattle.wm_spec.specs.declared.record.trace.Trace.{Trace}
 use Rattle.wm_spec.specs.declared.record.turn.Turn.{Turn}
 use Rattle.wm_state.proofs.Keeping.{KeepSpaces, KeepTables, are_cells-kept, asked, le_more, lt_le}
-use Rattle.wm_state.proofs.Tests.{bool_apart, both, and_true, all_if, all_middle, all_swap}
+use Rattle.wm_state.proofs.Tests.{all_if, all_middle, all_swap}
 
 -- ---- touches and marks
 
@@ -20,28 +21,28 @@ is_given-kept p q spaces n place = asked (λ (s : Space). nat_lt place s.next_pl
 
 pub is_trace-kept : (p q : Parts) → KeepTables p q → KeepSpaces p q → (x : Trace) → is_trace (table_of p.tables) (space_of p.spaces) x ≡ true → is_trace (table_of q.tables) (space_of q.spaces) x ≡ true
 is_trace-kept p q tables spaces x e =
-    let h = both (are_cells (table_of p.tables) x.cells) (is_given (space_of p.spaces) x.space x.place) e in
-    and_true (are_cells (table_of q.tables) x.cells) (is_given (space_of q.spaces) x.space x.place) (are_cells-kept p q tables x.cells h.0) (is_given-kept p q spaces x.space x.place h.1)
+    let h = and_parts (are_cells (table_of p.tables) x.cells) (is_given (space_of p.spaces) x.space x.place) e in
+    and_from (are_cells (table_of q.tables) x.cells) (is_given (space_of q.spaces) x.space x.place) (are_cells-kept p q tables x.cells h.0) (is_given-kept p q spaces x.space x.place h.1)
 
 pub is_touch-kept : (p q : Parts) → KeepTables p q → KeepSpaces p q → (x : Trace) → is_touch (table_of p.tables) (space_of p.spaces) x ≡ true → is_touch (table_of q.tables) (space_of q.spaces) x ≡ true
 is_touch-kept p q tables spaces x e =
-    let h = both (is_trace (table_of p.tables) (space_of p.spaces) x) _ e in
-    and_true (is_trace (table_of q.tables) (space_of q.spaces) x) _ (is_trace-kept p q tables spaces x h.0)
+    let h = and_parts (is_trace (table_of p.tables) (space_of p.spaces) x) _ e in
+    and_from (is_trace (table_of q.tables) (space_of q.spaces) x) _ (is_trace-kept p q tables spaces x h.0)
     (asked (λ (s : Space). nat_lt x.position s.log_length) (λ (s : Space). nat_lt x.position s.log_length) (space_of p.spaces x.space) (space_of q.spaces x.space)
     (λ s found lt. let y = spaces x.space s found in rw y.is (lt_le x.position s.log_length y.new.log_length y.log lt)) h.1)
 
 pub are_touches-kept : (p q : Parts) → KeepTables p q → KeepSpaces p q → q.touches ≡ p.touches → are_touches p ≡ true → are_touches q ≡ true
 are_touches-kept p q tables spaces touches e =
-    let h = both (differ meet p.touches) (list_all (is_touch (table_of p.tables) (space_of p.spaces)) p.touches) e in
+    let h = and_parts (differ meet p.touches) (list_all (is_touch (table_of p.tables) (space_of p.spaces)) p.touches) e in
     rw touches
-    (and_true (differ meet p.touches) (list_all (is_touch (table_of q.tables) (space_of q.spaces)) p.touches) h.0
+    (and_from (differ meet p.touches) (list_all (is_touch (table_of q.tables) (space_of q.spaces)) p.touches) h.0
     (all_if (is_touch (table_of p.tables) (space_of p.spaces)) (is_touch (table_of q.tables) (space_of q.spaces)) (is_touch-kept p q tables spaces) p.touches h.1))
 
 pub are_marks-kept : (p q : Parts) → KeepTables p q → KeepSpaces p q → q.marks ≡ p.marks → are_marks p ≡ true → are_marks q ≡ true
 are_marks-kept p q tables spaces marks e =
-    let h = both (differ meet p.marks) (list_all (is_trace (table_of p.tables) (space_of p.spaces)) p.marks) e in
+    let h = and_parts (differ meet p.marks) (list_all (is_trace (table_of p.tables) (space_of p.spaces)) p.marks) e in
     rw marks
-    (and_true (differ meet p.marks) (list_all (is_trace (table_of q.tables) (space_of q.spaces)) p.marks) h.0
+    (and_from (differ meet p.marks) (list_all (is_trace (table_of q.tables) (space_of q.spaces)) p.marks) h.0
     (all_if (is_trace (table_of p.tables) (space_of p.spaces)) (is_trace (table_of q.tables) (space_of q.spaces)) (is_trace-kept p q tables spaces) p.marks h.1))
 
 -- ---- locks
@@ -49,17 +50,17 @@ are_marks-kept p q tables spaces marks e =
 is_lock-kept : (p q : Parts) (work more : ℕ) → nat_le work more ≡ true → KeepTables p q → KeepSpaces p q → (x : Lock)
     → is_lock (table_of p.tables) (space_of p.spaces) work x ≡ true → is_lock (table_of q.tables) (space_of q.spaces) more x ≡ true
 is_lock-kept p q work more le tables spaces x e =
-    let h = both (is_short x.user && nat_le x.making (work + 2)) _ e in
-    let g = both (is_short x.user) (nat_le x.making (work + 2)) h.0 in
-    let k = both (are_cells (table_of p.tables) x.cells) (is_given (space_of p.spaces) x.space x.place) h.1 in
-    and_true (is_short x.user && nat_le x.making (more + 2)) _ (and_true (is_short x.user) _ g.0 (le_more x.making work more le g.1))
-    (and_true (are_cells (table_of q.tables) x.cells) (is_given (space_of q.spaces) x.space x.place) (are_cells-kept p q tables x.cells k.0) (is_given-kept p q spaces x.space x.place k.1))
+    let h = and_parts (is_short x.user && nat_le x.making (work + 2)) _ e in
+    let g = and_parts (is_short x.user) (nat_le x.making (work + 2)) h.0 in
+    let k = and_parts (are_cells (table_of p.tables) x.cells) (is_given (space_of p.spaces) x.space x.place) h.1 in
+    and_from (is_short x.user && nat_le x.making (more + 2)) _ (and_from (is_short x.user) _ g.0 (le_more x.making work more le g.1))
+    (and_from (are_cells (table_of q.tables) x.cells) (is_given (space_of q.spaces) x.space x.place) (are_cells-kept p q tables x.cells k.0) (is_given-kept p q spaces x.space x.place k.1))
 
 pub are_locks-kept : (p q : Parts) (work more : ℕ) → nat_le work more ≡ true → KeepTables p q → KeepSpaces p q → q.locks ≡ p.locks → are_locks p work ≡ true → are_locks q more ≡ true
 are_locks-kept p q work more le tables spaces locks e =
-    let h = both (differ (λ (x y : Lock). x.making == y.making) p.locks) (list_all (is_lock (table_of p.tables) (space_of p.spaces) work) p.locks) e in
+    let h = and_parts (differ (λ (x y : Lock). x.making == y.making) p.locks) (list_all (is_lock (table_of p.tables) (space_of p.spaces) work) p.locks) e in
     rw locks
-    (and_true (differ (λ (x y : Lock). x.making == y.making) p.locks) (list_all (is_lock (table_of q.tables) (space_of q.spaces) more) p.locks) h.0
+    (and_from (differ (λ (x y : Lock). x.making == y.making) p.locks) (list_all (is_lock (table_of q.tables) (space_of q.spaces) more) p.locks) h.0
     (all_if (is_lock (table_of p.tables) (space_of p.spaces) work) (is_lock (table_of q.tables) (space_of q.spaces) more) (is_lock-kept p q work more le tables spaces) p.locks h.1))
 
 -- ---- turns
@@ -71,8 +72,8 @@ pub record RuledTurns (p : Parts) : Type 0 where
 
 pub ruled_turns : (p : Parts) → are_turns p ≡ true → RuledTurns p
 ruled_turns p e =
-    let h = both (list_all (λ (x : Turn). is_some (space_of p.spaces x.space)) p.turns) _ e in
-    let g = both (differ same_turn (asked_turns p)) (list_all (has_turns (asked_turns p)) p.spaces) h.1 in
+    let h = and_parts (list_all (λ (x : Turn). is_some (space_of p.spaces x.space)) p.turns) _ e in
+    let g = and_parts (differ same_turn (asked_turns p)) (list_all (has_turns (asked_turns p)) p.spaces) h.1 in
     record { there = h.0; numbers = g.0; each = g.1 }
 
 -- a turn of a workspace that is there is asked for as it was
@@ -80,14 +81,14 @@ is_asked_same : (p q : Parts) → KeepSpaces p q → (x : Turn) → is_some (spa
 is_asked_same p q spaces x there = by_space (space_of p.spaces x.space) refl there
   where
     by_space : (o : Option Space) → space_of p.spaces x.space ≡ o → is_some o ≡ true → is_asked (space_of q.spaces) x ≡ is_asked (space_of p.spaces) x
-    by_space None found is = absurd (bool_apart (sym is))
+    by_space None found is = absurd (true≢false (sym is))
     by_space (Some s) found is = let y = spaces x.space s found in rw (y.is, found, y.rebases) refl
 
 -- so are all of them
 pub asked_same : (p q : Parts) → KeepSpaces p q → (xs : List Turn) → list_all (λ (x : Turn). is_some (space_of p.spaces x.space)) xs ≡ true → filter (is_asked (space_of q.spaces)) xs ≡ filter (is_asked (space_of p.spaces)) xs
 asked_same p q spaces [] there = refl
 asked_same p q spaces (x ∷ xs) there =
-    let h = both (is_some (space_of p.spaces x.space)) (list_all (λ (y : Turn). is_some (space_of p.spaces y.space)) xs) there in
+    let h = and_parts (is_some (space_of p.spaces x.space)) (list_all (λ (y : Turn). is_some (space_of p.spaces y.space)) xs) there in
     rw (is_asked_same p q spaces x h.0) (by_test (is_asked (space_of p.spaces) x) (asked_same p q spaces xs h.1))
   where
     by_test : (b : Bool) → filter (is_asked (space_of q.spaces)) xs ≡ filter (is_asked (space_of p.spaces)) xs
@@ -97,10 +98,10 @@ asked_same p q spaces (x ∷ xs) there =
 
 pub are_turns-kept : (p q : Parts) → KeepSpaces p q → q.turns ≡ p.turns → list_all (has_turns (asked_turns p)) q.spaces ≡ true → are_turns p ≡ true → are_turns q ≡ true
 are_turns-kept p q spaces turns each e =
-    and_true (list_all (λ (x : Turn). is_some (space_of q.spaces x.space)) q.turns) _
+    and_from (list_all (λ (x : Turn). is_some (space_of q.spaces x.space)) q.turns) _
     (ap (list_all (λ (x : Turn). is_some (space_of q.spaces x.space))) turns
     ∙ all_if (λ (x : Turn). is_some (space_of p.spaces x.space)) (λ (x : Turn). is_some (space_of q.spaces x.space)) (λ x. still x (space_of p.spaces x.space) refl) p.turns r.there)
-    (and_true (differ same_turn (asked_turns q)) (list_all (has_turns (asked_turns q)) q.spaces)
+    (and_from (differ same_turn (asked_turns q)) (list_all (has_turns (asked_turns q)) q.spaces)
     (ap (differ same_turn) same ∙ r.numbers)
     (ap (λ ts. list_all (has_turns ts) q.spaces) same ∙ each))
   where
@@ -111,7 +112,7 @@ are_turns-kept p q spaces turns each e =
     same = ap (filter (is_asked (space_of q.spaces))) turns ∙ asked_same p q spaces p.turns r.there
 
     still : (x : Turn) (o : Option Space) → space_of p.spaces x.space ≡ o → is_some o ≡ true → is_some (space_of q.spaces x.space) ≡ true
-    still x None found is = absurd (bool_apart (sym is))
+    still x None found is = absurd (true≢false (sym is))
     still x (Some s) found is = ap is_some (spaces x.space s found).is
 
 -- workspaces have as many as before where one stands in the place of another of its number and rebases

@@ -1,12 +1,12 @@
 -- Keys that are the same, and what is stored in pieces one behind another.
-use Rattle.std.proofs.Common.{◌≡◌, ℕ, Bool, true, false, List, [], ◌∷◌, ◌++◌, Option, Some, None, refl, sym, ap, ◌∙◌}
+use Rattle.std.proofs.Common.{◌≡◌, ℕ, Bool, true, false, List, [], ◌∷◌, ◌++◌, refl, sym, ap, ◌∙◌}
 use Rattle.std.specs.Bool.{then_some}
 use Rattle.std.specs.Option.{option_or}
 use Rattle.std.specs.Ordering.{is_eq}
+use Rattle.wm_base.proofs.Plain.{option_or_assoc}
 use Rattle.wm_base.specs.Key.{key_order}
 use Rattle.wm_base.specs.Orders.{key_order-decides}
 use Rattle.wm_base.specs.declared.value.Value.{Value}
-use Rattle.wm_period.specs.Pieces.{Held}
 use Rattle.wm_spec.specs.Lists.{Cell}
 use Rattle.wm_spec.specs.declared.record.piece.PieceRecord.{PieceRecord}
 use Rattle.wm_state.specs.Standing.{held_by, covers_at, stored_at}
@@ -29,8 +29,4 @@ false_if false not_so = refl
 
 pub stored-append : (xs ys : List PieceRecord) (v : ℕ) (c : Cell) → stored_at (xs ++ ys) v c ≡ option_or (stored_at xs v c) (stored_at ys v c)
 stored-append [] ys v c = refl
-stored-append (x ∷ xs) ys v c = ap (λ o. option_or (then_some (covers_at x v c) (held_by x)) o) (stored-append xs ys v c) ∙ sym (or_assoc (then_some (covers_at x v c) (held_by x)) (stored_at xs v c) (stored_at ys v c))
-  where
-    or_assoc : (a b d : Option Held) → option_or (option_or a b) d ≡ option_or a (option_or b d)
-    or_assoc None b d = refl
-    or_assoc (Some a) b d = refl
+stored-append (x ∷ xs) ys v c = ap (λ o. option_or (then_some (covers_at x v c) (held_by x)) o) (stored-append xs ys v c) ∙ sym (option_or_assoc (then_some (covers_at x v c) (held_by x)) (stored_at xs v c) (stored_at ys v c))

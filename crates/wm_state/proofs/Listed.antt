@@ -1,6 +1,8 @@
 -- A listing of the records is the listing of the state.
 use Rattle.std.proofs.Common.{◌≡◌, ℕ, ◌≤◌, ◌==◌, ◌&&◌, nat_lt, nat_le, Bool, true, false, cond, if◌then◌else◌, List, [], ◌∷◌, ◌++◌, map, Option, Some, None, is_some, is_none, refl, sym, ap, ◌∙◌, arith}
 use Rattle.std.proofs.lemmas.List.Elements.{filter_map-append}
+use Rattle.std.proofs.lemmas.Bool.{or_parts}
+use Rattle.std.proofs.lemmas.Option.{same_Some, none-some}
 use Rattle.std.specs.Bool.{then_some}
 use Rattle.std.specs.List.{list_any, filter_map}
 use Rattle.std.specs.Option.{option_or, option_map, option_and_then}
@@ -22,14 +24,14 @@ use Rattle.wm_state.specs.State.{Durable, Workspace, Savepoint, content, kept, w
 use Rattle.wm_state.specs.Standing.{held_of, stored_at, seen_at, seen, newest_first, latest, saved_as, HasRows, Newest, Kept, Stands}
 use Rattle.wm_state.specs.Listing.{standing, stamp_seen, stamp_shown, listed, row_on, row_with, seen_row, row_shown, row_shown_with, is_unwritten, IsListing, IsShowing, AreRowsOf, Groups, keys_of, joined, AreAllRowsOf}
 use Rattle.wm_state.proofs.Shown.{showing_listed}
-use Rattle.wm_state.proofs.Listing.{one_rows, rows_of, Covers, listed_same, first-listed, no_rows_of, first-held, behind-held, either_false}
+use Rattle.wm_state.proofs.Listing.{one_rows, rows_of, Covers, listed_same, first-listed, no_rows_of, first-held, behind-held}
 
 -- ---- a key of which there is no piece
 
 unstored : (pieces : List PieceRecord) (table : ℕ) (key : List Value) (t v : ℕ) → is_unwritten pieces table key → stored_at pieces v (record { table = table; key = key; time = t }) ≡ None
 unstored [] table key t v none = refl
 unstored (x ∷ xs) table key t v none =
-    let h = either_false ((x.cells.table == table) && is_eq (key_order x.cells.key key)) (list_any (λ (x : PieceRecord). (x.cells.table == table) && is_eq (key_order x.cells.key key)) xs) none in
+    let h = or_parts ((x.cells.table == table) && is_eq (key_order x.cells.key key)) (list_any (λ (x : PieceRecord). (x.cells.table == table) && is_eq (key_order x.cells.key key)) xs) none in
     rw (uncovered (x.version == v) ((x.cells.table == table) && is_eq (key_order x.cells.key key)) (nat_le x.cells.from t && nat_lt t x.cells.till) h.0, unstored xs table key t v h.1) refl
   where
     uncovered : (a b c : Bool) → b ≡ false → (a && (b && c)) ≡ false
@@ -80,29 +82,20 @@ row_there p es has table place held = by_told (told es c) refl held
     c : Cell
     c = record { table = table; key = place.0; time = place.1.from }
 
-    some_number : (a b : ℕ) → Some a ≡ Some b → a ≡ b
-    some_number a b h = cc
-
-    some_values : {A : Type 0} (a b : A) → Some a ≡ Some b → a ≡ b
-    some_values a b h = cc
-
-    none_number : (b : ℕ) → (let nothing : Option ℕ = None in nothing) ≡ Some b → ⊥
-    none_number b h = cc
-
     by_told : (o : Option Told) → told es c ≡ o → option_and_then standing_stamp o ≡ Some place.1.stamp → row_with p place ≡ option_and_then (λ (t : Told). t.row) (told es c)
-    by_told None e h = absurd (none_number place.1.stamp h)
+    by_told None e h = absurd (none-some place.1.stamp h)
     by_told (Some t) e h = by_row t.row refl h
       where
         by_row : (r : Option Row) → t.row ≡ r → then_some (is_some r) t.stamp ≡ Some place.1.stamp → row_with p place ≡ option_and_then (λ (t : Told). t.row) (told es c)
-        by_row None none g = absurd (none_number place.1.stamp g)
-        by_row (Some row) some g = ap (λ k. option_map to_row (row_of p.rows k)) (sym (some_number t.stamp place.1.stamp g)) ∙ by_record (row_of p.rows t.stamp) (has c t row e some) ∙ sym (ap (option_and_then (λ (t : Told). t.row)) e ∙ some)
+        by_row None none g = absurd (none-some place.1.stamp g)
+        by_row (Some row) some g = ap (λ k. option_map to_row (row_of p.rows k)) (sym (same_Some t.stamp place.1.stamp g)) ∙ by_record (row_of p.rows t.stamp) (has c t row e some) ∙ sym (ap (option_and_then (λ (t : Told). t.row)) e ∙ some)
           where
             to_row : RowRecord → Row
             to_row r = record { values = r.values }
 
             by_record : (o : Option RowRecord) → option_map (λ (r : RowRecord). r.values) o ≡ Some row.values → option_map to_row o ≡ Some row
             by_record None there = cc
-            by_record (Some r) there = ap (λ v. let made : Row = record { values = v } in Some made) (some_values r.values row.values there)
+            by_record (Some r) there = ap (λ v. let made : Row = record { values = v } in Some made) (same_Some r.values row.values there)
 
 -- what two functions give of lists, where they give the same of the first
 step_same : {X : Type 0} (f g : X → Option Row) (a : X) (l : List X) → f a ≡ g a → filter_map f l ≡ filter_map g l → filter_map f (a ∷ l) ≡ filter_map g (a ∷ l)

@@ -1,19 +1,19 @@
 -- The rows of a table are determined by what is held at each cell, and by any keys that have all that hold something.
-use Rattle.std.proofs.Common.{◌≡◌, ◌≢◌, ℕ, ◌<◌, ◌≤◌, ◌==◌, ◌&&◌, ◌||◌, nat_lt, nat_le, Bool, true, false, if◌then◌else◌, List, [], ◌∷◌, ◌++◌, map, Option, Some, None, refl, sym, ap, subst, ◌∙◌, ◌⊎◌, inl, inr, arith}
-use Rattle.std.proofs.lemmas.Bool.{cases_eq}
-use Rattle.std.specs.Option.{option_or}
+use Rattle.std.proofs.Common.{◌≡◌, ◌≢◌, ℕ, ◌<◌, ◌≤◌, ◌==◌, ◌&&◌, ◌||◌, nat_lt, nat_le, Bool, true, false, if◌then◌else◌, List, [], ◌∷◌, ◌++◌, map, Some, refl, sym, ap, subst, ◌∙◌, ◌⊎◌, inl, inr, arith}
+use Rattle.std.proofs.lemmas.Bool.{cases_eq, or_parts, true≢false}
+use Rattle.std.proofs.lemmas.Option.{same_Some}
 use Rattle.std.specs.Ordering.{is_eq}
 use Rattle.std.specs.declared.cmp.Ordering.{Ordering}
 use Rattle.std.specs.declared.cmp.Ordering.TheVariants.{Less, Equal, Greater}
+use Rattle.wm_base.proofs.Plain.{none_some, option_or-none}
 use Rattle.wm_base.specs.Key.{key_order}
 use Rattle.wm_base.specs.Orders.{key_order_total, key_order-itself, key_order-equal}
 use Rattle.wm_base.specs.declared.value.Value.{Value}
 use Rattle.wm_spec.specs.Lists.{Entry, stamp_at}
 use Rattle.wm_spec.specs.Stretches.{Stretch, value_at, AreMaximal, ComesBefore, KeysAscend, is_key_in, rows_from, rows_of_key, keys, key_in, cuts, stretches}
 use Rattle.wm_spec.proofs.Keys.{before-more, key_in-has}
-use Rattle.wm_spec.proofs.Stretches.{value-rows, AreMaximal-rows}
+use Rattle.wm_spec.proofs.Stretches.{value-rows, AreMaximal-rows, value-before}
 use Rattle.wm_state.specs.Listing.{stamp_seen, AreRowsOf, listed}
-use Rattle.wm_state.proofs.Tests.{bool_apart}
 use Rattle.wm_state.proofs.Laying.{key_same}
 
 -- ---- stretches are determined by what they hold
@@ -21,37 +21,19 @@ use Rattle.wm_state.proofs.Laying.{key_same}
 abbrev has : ℕ → ℕ → ℕ → Bool
 has from till t = nat_le from t && nat_lt t till
 
-none_some : {A : Type 0} (o : Option A) (x : A) → o ≡ None → o ≡ Some x → ⊥
-none_some o x none some = cc
-
-some_same : {A : Type 0} (x y : A) → Some x ≡ Some y → x ≡ y
-some_same x y h = cc
-
--- nothing is held before the first
-before-none : (t low : ℕ) (ss : List Stretch) → t < low → AreMaximal low ss → value_at ss t ≡ None
-before-none t low [] lt max = refl
-before-none t low (s ∷ ss) lt max = rw (before-none t s.till ss (omega (arith, lt, max.0, max.1)) max.3, has-not t s.from s.till (omega (arith, lt, max.0))) refl
-  where
-    has-not : (t' from till : ℕ) → t' < from → has from till t' ≡ false
-    has-not t' from till below = grind (arith, below)
-
 -- the first is held from its beginning to its end
 pub first-held : (low : ℕ) (s : Stretch) (ss : List Stretch) (t : ℕ) → AreMaximal low (s ∷ ss) → s.from ≤ t → t < s.till → value_at (s ∷ ss) t ≡ Some s.stamp
-first-held low s ss t max le lt = rw (before-none t s.till ss lt max.3, within s.from s.till t le lt) refl
+first-held low s ss t max le lt = rw (value-before t s.till ss lt max.3, within s.from s.till t le lt) refl
   where
     within : (from till t' : ℕ) → from ≤ t' → t' < till → has from till t' ≡ true
     within from till t' le lt = grind (arith, le, lt)
 
 -- behind it what is held is what the others hold
 pub behind-held : (s : Stretch) (ss : List Stretch) (t : ℕ) → s.till ≤ t → value_at (s ∷ ss) t ≡ value_at ss t
-behind-held s ss t le = rw (past s.from s.till t le) (or_none (value_at ss t))
+behind-held s ss t le = rw (past s.from s.till t le) (option_or-none (value_at ss t))
   where
     past : (from till t' : ℕ) → till ≤ t' → has from till t' ≡ false
     past from till t' le = grind (arith, le)
-
-    or_none : (o : Option ℕ) → option_or o None ≡ o
-    or_none None = refl
-    or_none (Some n) = refl
 
 stretch_same : (a b : Stretch) → a.from ≡ b.from → a.till ≡ b.till → a.stamp ≡ b.stamp → a ≡ b
 stretch_same a b e f g = ap (λ (k : ℕ). made k a.till a.stamp) e ∙ ap (λ (k : ℕ). made b.from k a.stamp) f ∙ ap (λ (k : ℕ). made b.from b.till k) g
@@ -71,13 +53,13 @@ end_apart a b (c ∷ xs) ys low one two from stamp same lt = by_place (cases_eq 
 
     by_place : (a.till ≡ c.from) ⊎ (a.till ≢ c.from) → ⊥
     by_place (inl meets) =
-        one.2 meets (stamp ∙ some_same b.stamp c.stamp (sym at_end ∙ first-held a.till c xs a.till one.3 (omega (arith, meets)) (omega (arith, meets, one.3.1))))
-    by_place (inr gap) = none_some (value_at (c ∷ xs) a.till) b.stamp (before-none a.till c.from (c ∷ xs) (omega (arith, one.3.0, gap)) (omega arith, one.3.1, one.3.2, one.3.3)) at_end
+        one.2 meets (stamp ∙ same_Some b.stamp c.stamp (sym at_end ∙ first-held a.till c xs a.till one.3 (omega (arith, meets)) (omega (arith, meets, one.3.1))))
+    by_place (inr gap) = none_some (value_at (c ∷ xs) a.till) b.stamp (value-before a.till c.from (c ∷ xs) (omega (arith, one.3.0, gap)) (omega arith, one.3.1, one.3.2, one.3.3)) at_end
 
 -- beginnings that differ: the earlier one is held by the other, which begins later
 begin_apart : (a b : Stretch) (xs ys : List Stretch) (low : ℕ) → AreMaximal low (a ∷ xs) → AreMaximal low (b ∷ ys) → ((t : ℕ) → low ≤ t → value_at (a ∷ xs) t ≡ value_at (b ∷ ys) t) → a.from < b.from → ⊥
 begin_apart a b xs ys low one two same lt =
-    none_some (value_at (b ∷ ys) a.from) a.stamp (before-none a.from b.from (b ∷ ys) lt (omega arith, two.1, two.2, two.3)) (sym (same a.from one.0) ∙ first-held low a xs a.from one (omega arith) one.1)
+    none_some (value_at (b ∷ ys) a.from) a.stamp (value-before a.from b.from (b ∷ ys) lt (omega arith, two.1, two.2, two.3)) (sym (same a.from one.0) ∙ first-held low a xs a.from one (omega arith) one.1)
 
 compared : (m n : ℕ) → (m < n) ⊎ ((m ≡ n) ⊎ (n < m))
 compared m n = by_test (nat_lt m n) refl (nat_lt n m) refl
@@ -114,7 +96,7 @@ one_rows (a ∷ xs) (b ∷ ys) low one two same = by_from (compared a.from b.fro
     by_from (inr (inr later)) rest = absurd (begin_apart b a ys xs low two one turned later)
     by_from (inr (inl from)) rest =
         by_till from
-        (some_same a.stamp b.stamp (sym (first-held low a xs a.from one (omega arith) one.1) ∙ same a.from one.0 ∙ first-held low b ys a.from two (omega (arith, from)) (omega (arith, from, two.1))))
+        (same_Some a.stamp b.stamp (sym (first-held low a xs a.from one (omega arith) one.1) ∙ same a.from one.0 ∙ first-held low b ys a.from two (omega (arith, from)) (omega (arith, from, two.1))))
         (compared a.till b.till) rest
 
 -- the rows of a key are those that are held
@@ -131,7 +113,7 @@ less_itself k e = less_apart (sym e ∙ key_order-itself k)
     less_apart e = cc
 
 -- a key before all of these is none of them
-before-out : (k : List Value) (ks : List (List Value)) → ComesBefore k ks → is_key_in k ks ≡ false
+pub before-out : (k : List Value) (ks : List (List Value)) → ComesBefore k ks → is_key_in k ks ≡ false
 before-out k [] before = refl
 before-out k (x ∷ ks) before = by_test (is_eq (key_order x k)) refl (before-out k ks before.1)
   where
@@ -185,10 +167,6 @@ pub first-listed : (es : List Entry) (table : ℕ) (ks : List (List Value)) → 
 first-listed es table [] = refl
 first-listed es table (k ∷ ks) = ap (λ rest. map (λ s. (k, s)) (rows_of_key es table k) ++ rest) (first-listed es table ks)
 
-pub either_false : (a b : Bool) → (a || b) ≡ false → (a ≡ false) × (b ≡ false)
-either_false true b e = absurd (bool_apart e)
-either_false false b e = (refl, e)
-
 -- a key that no entry has has no rows
 no_cuts : (es : List Entry) (table : ℕ) (k : List Value) → is_key_in k (keys es table) ≡ false → cuts es table k ≡ []
 no_cuts [] table k out = refl
@@ -196,7 +174,7 @@ no_cuts (e ∷ es) table k out = by_table (e.table == table) refl (no_cuts es ta
   where
     by_table : (b : Bool) → (e.table == table) ≡ b → (is_key_in k (keys es table) ≡ false → cuts es table k ≡ []) → cuts (e ∷ es) table k ≡ []
     by_table true same rest =
-        let h = either_false (is_eq (key_order e.key k)) (is_key_in k (keys es table)) (sym (key_in-has e.key k (keys es table)) ∙ ap (is_key_in k) (sym (ap (λ b. if b then key_in e.key (keys es table) else keys es table) same)) ∙ out) in
+        let h = or_parts (is_eq (key_order e.key k)) (is_key_in k (keys es table)) (sym (key_in-has e.key k (keys es table)) ∙ ap (is_key_in k) (sym (ap (λ b. if b then key_in e.key (keys es table) else keys es table) same)) ∙ out) in
         rw (same, h.0) (rest h.1)
     by_table false other rest = rw other (rest (ap (is_key_in k) (sym (ap (λ b. if b then key_in e.key (keys es table) else keys es table) other)) ∙ out))
 

@@ -1,19 +1,16 @@
 -- Records of savepoints by making.
-use Rattle.std.proofs.Common.{◌≡◌, ℕ, suc, ◌==◌, nat_lt, Bool, true, false, not, cond, List, [], ◌∷◌, ◌++◌, length, Some, refl, sym, ap, ◌∙◌, arith}
-use Rattle.std.proofs.lemmas.Bool.{eq-eqb, eqb-true, ne_eqb}
+use Rattle.std.proofs.Common.{◌≡◌, ℕ, suc, ◌==◌, nat_lt, Bool, true, false, not, cond, List, [], ◌∷◌, ◌++◌, length, Some, refl, sym, ap, ◌∙◌}
+use Rattle.std.proofs.lemmas.Bool.{eq-eqb, eqb-true, ne_eqb, and_from, and_parts, not-true, or_parts, true≢false}
 use Rattle.std.specs.List.{list_all, list_any, find}
+use Rattle.wm_base.proofs.Plain.{nat_lt-turned}
 use Rattle.wm_graph.specs.Rules.{differ}
 use Rattle.wm_spec.specs.declared.record.savepoint.Savepoint.{Savepoint as Record}
 use Rattle.wm_state.specs.Standing.{place_making, by_making}
-use Rattle.wm_state.proofs.Tests.{bool_apart, both, and_true, not_true, either_false}
 
 -- ---- one that was made after all others comes last
 
 place-before : (x y : Record) (ys : List Record) → nat_lt y.making x.making ≡ true → place_making y (ys ++ x ∷ []) ≡ place_making y ys ++ x ∷ []
-place-before x y [] lt = rw (not_less y.making x.making lt) refl
-  where
-    not_less : (a b : ℕ) → nat_lt a b ≡ true → nat_lt b a ≡ false
-    not_less a b lt = grind (arith, lt)
+place-before x y [] lt = rw (nat_lt-turned y.making x.making lt) refl
 place-before x y (z ∷ zs) lt = by_test (nat_lt z.making y.making) (place-before x y zs lt)
   where
     by_test : (b : Bool) → place_making y (zs ++ x ∷ []) ≡ place_making y zs ++ x ∷ []
@@ -24,7 +21,7 @@ place-before x y (z ∷ zs) lt = by_test (nat_lt z.making y.making) (place-befor
 pub making-push : (x : Record) (xs : List Record) → list_all (λ (y : Record). nat_lt y.making x.making) xs ≡ true → by_making (xs ++ x ∷ []) ≡ by_making xs ++ x ∷ []
 making-push x [] after = refl
 making-push x (y ∷ ys) after =
-    let h = both (nat_lt y.making x.making) (list_all (λ (y : Record). nat_lt y.making x.making) ys) after in
+    let h = and_parts (nat_lt y.making x.making) (list_all (λ (y : Record). nat_lt y.making x.making) ys) after in
     ap (place_making y) (making-push x ys h.1) ∙ place-before x y (by_making ys) h.0
 
 -- ---- what holds of all, of none, and how many they are
@@ -42,20 +39,20 @@ length-making [] = refl
 length-making (x ∷ xs) = length-place x (by_making xs) ∙ ap suc (length-making xs)
 
 all-place : (P : Record → Bool) (y : Record) (ys : List Record) → P y ≡ true → list_all P ys ≡ true → list_all P (place_making y ys) ≡ true
-all-place P y [] is all = and_true (P y) true is refl
-all-place P y (z ∷ zs) is all = by_test (nat_lt z.making y.making) (both (P z) (list_all P zs) all) (all-place P y zs is)
+all-place P y [] is all = and_from (P y) true is refl
+all-place P y (z ∷ zs) is all = by_test (nat_lt z.making y.making) (and_parts (P z) (list_all P zs) all) (all-place P y zs is)
   where
     by_test : (b : Bool) → (P z ≡ true) × (list_all P zs ≡ true) → (list_all P zs ≡ true → list_all P (place_making y zs) ≡ true) → list_all P (cond b (z ∷ place_making y zs) (y ∷ z ∷ zs)) ≡ true
-    by_test true h rest = and_true (P z) (list_all P (place_making y zs)) h.0 (rest h.1)
-    by_test false h rest = and_true (P y) (list_all P (z ∷ zs)) is all
+    by_test true h rest = and_from (P z) (list_all P (place_making y zs)) h.0 (rest h.1)
+    by_test false h rest = and_from (P y) (list_all P (z ∷ zs)) is all
 
 pub all-making : (P : Record → Bool) (xs : List Record) → list_all P xs ≡ true → list_all P (by_making xs) ≡ true
 all-making P [] all = refl
-all-making P (x ∷ xs) all = let h = both (P x) (list_all P xs) all in all-place P x (by_making xs) h.0 (all-making P xs h.1)
+all-making P (x ∷ xs) all = let h = and_parts (P x) (list_all P xs) all in all-place P x (by_making xs) h.0 (all-making P xs h.1)
 
 any-place : (P : Record → Bool) (y : Record) (ys : List Record) → P y ≡ false → list_any P ys ≡ false → list_any P (place_making y ys) ≡ false
 any-place P y [] is none = rw is refl
-any-place P y (z ∷ zs) is none = by_test (nat_lt z.making y.making) (either_false (P z) (list_any P zs) none) (any-place P y zs is)
+any-place P y (z ∷ zs) is none = by_test (nat_lt z.making y.making) (or_parts (P z) (list_any P zs) none) (any-place P y zs is)
   where
     by_test : (b : Bool) → (P z ≡ false) × (list_any P zs ≡ false) → (list_any P zs ≡ false → list_any P (place_making y zs) ≡ false) → list_any P (cond b (z ∷ place_making y zs) (y ∷ z ∷ zs)) ≡ false
     by_test true h rest = rw (h.0, rest h.1) refl
@@ -63,7 +60,7 @@ any-place P y (z ∷ zs) is none = by_test (nat_lt z.making y.making) (either_fa
 
 any-making : (P : Record → Bool) (xs : List Record) → list_any P xs ≡ false → list_any P (by_making xs) ≡ false
 any-making P [] none = refl
-any-making P (x ∷ xs) none = let h = either_false (P x) (list_any P xs) none in any-place P x (by_making xs) h.0 (any-making P xs h.1)
+any-making P (x ∷ xs) none = let h = or_parts (P x) (list_any P xs) none in any-place P x (by_making xs) h.0 (any-making P xs h.1)
 
 -- ---- makings that differ
 
@@ -75,25 +72,25 @@ pub making-itself : (x : Record) → same_making x x ≡ true
 making-itself x = eq-eqb x.making x.making refl
 
 turned : (x y : Record) → same_making x y ≡ false → same_making y x ≡ false
-turned x y e = ne_eqb _ _ (λ same. bool_apart (sym (eq-eqb x.making y.making (sym same)) ∙ e))
+turned x y e = ne_eqb _ _ (λ same. true≢false (sym (eq-eqb x.making y.making (sym same)) ∙ e))
 
 differ-place : (y : Record) (ys : List Record) → list_any (same_making y) ys ≡ false → differ same_making ys ≡ true → differ same_making (place_making y ys) ≡ true
 differ-place y [] none apart = refl
 differ-place y (z ∷ zs) none apart =
-    by_test (nat_lt z.making y.making) (either_false (same_making y z) (list_any (same_making y) zs) none) (both (not (list_any (same_making z) zs)) (differ same_making zs) apart) (differ-place y zs)
+    by_test (nat_lt z.making y.making) (or_parts (same_making y z) (list_any (same_making y) zs) none) (and_parts (not (list_any (same_making z) zs)) (differ same_making zs) apart) (differ-place y zs)
   where
     by_test : (b : Bool) → (same_making y z ≡ false) × (list_any (same_making y) zs ≡ false) → (not (list_any (same_making z) zs) ≡ true) × (differ same_making zs ≡ true)
         → (list_any (same_making y) zs ≡ false → differ same_making zs ≡ true → differ same_making (place_making y zs) ≡ true) → differ same_making (cond b (z ∷ place_making y zs) (y ∷ z ∷ zs)) ≡ true
     by_test true h d rest =
-        and_true (not (list_any (same_making z) (place_making y zs))) (differ same_making (place_making y zs))
-        (ap not (any-place (same_making z) y zs (turned y z h.0) (not_true (list_any (same_making z) zs) d.0))) (rest h.1 d.1)
-    by_test false h d rest = and_true (not (list_any (same_making y) (z ∷ zs))) (differ same_making (z ∷ zs)) (ap not none) apart
+        and_from (not (list_any (same_making z) (place_making y zs))) (differ same_making (place_making y zs))
+        (ap not (any-place (same_making z) y zs (turned y z h.0) (not-true (list_any (same_making z) zs) d.0))) (rest h.1 d.1)
+    by_test false h d rest = and_from (not (list_any (same_making y) (z ∷ zs))) (differ same_making (z ∷ zs)) (ap not none) apart
 
 pub differ-making : (xs : List Record) → differ same_making xs ≡ true → differ same_making (by_making xs) ≡ true
 differ-making [] apart = refl
 differ-making (x ∷ xs) apart =
-    let h = both (not (list_any (same_making x) xs)) (differ same_making xs) apart in
-    differ-place x (by_making xs) (any-making (same_making x) xs (not_true (list_any (same_making x) xs) h.0)) (differ-making xs h.1)
+    let h = and_parts (not (list_any (same_making x) xs)) (differ same_making xs) apart in
+    differ-place x (by_making xs) (any-making (same_making x) xs (not-true (list_any (same_making x) xs) h.0)) (differ-making xs h.1)
 
 -- ---- the one of a making
 
@@ -111,7 +108,7 @@ place-skip P y (z ∷ zs) is = by_test (nat_lt z.making y.making) (place-skip P 
 
 place-found : (P : Record → Bool) (y : Record) (ys : List Record) → P y ≡ true → list_any P ys ≡ false → find P (place_making y ys) ≡ Some y
 place-found P y [] is none = rw is refl
-place-found P y (z ∷ zs) is none = by_test (nat_lt z.making y.making) (either_false (P z) (list_any P zs) none) (place-found P y zs is)
+place-found P y (z ∷ zs) is none = by_test (nat_lt z.making y.making) (or_parts (P z) (list_any P zs) none) (place-found P y zs is)
   where
     by_test : (b : Bool) → (P z ≡ false) × (list_any P zs ≡ false) → (list_any P zs ≡ false → find P (place_making y zs) ≡ Some y) → find P (cond b (z ∷ place_making y zs) (y ∷ z ∷ zs)) ≡ Some y
     by_test true h rest = rw h.0 (rest h.1)
@@ -120,18 +117,18 @@ place-found P y (z ∷ zs) is none = by_test (nat_lt z.making y.making) (either_
 -- where at most one passes, it is found in the one order as in the other
 pub find-one : (P : Record → Bool) (same : Record → Record → Bool) → ((x y : Record) → P x ≡ true → P y ≡ true → same x y ≡ true) → (xs : List Record) → differ same xs ≡ true → find P (by_making xs) ≡ find P xs
 find-one P same as_one [] apart = refl
-find-one P same as_one (x ∷ xs) apart = by_test (P x) refl (both (not (list_any (same x) xs)) (differ same xs) apart) (find-one P same as_one xs)
+find-one P same as_one (x ∷ xs) apart = by_test (P x) refl (and_parts (not (list_any (same x) xs)) (differ same xs) apart) (find-one P same as_one xs)
   where
     none_else : P x ≡ true → (ys : List Record) → list_any (same x) ys ≡ false → list_any P ys ≡ false
     none_else is [] none = refl
-    none_else is (y ∷ ys) none = by_other (P y) refl (either_false (same x y) (list_any (same x) ys) none) (none_else is ys)
+    none_else is (y ∷ ys) none = by_other (P y) refl (or_parts (same x y) (list_any (same x) ys) none) (none_else is ys)
       where
         by_other : (b : Bool) → P y ≡ b → (same x y ≡ false) × (list_any (same x) ys ≡ false) → (list_any (same x) ys ≡ false → list_any P ys ≡ false) → list_any P (y ∷ ys) ≡ false
-        by_other true e h rest = absurd (bool_apart (sym (as_one x y is e) ∙ h.0))
+        by_other true e h rest = absurd (true≢false (sym (as_one x y is e) ∙ h.0))
         by_other false e h rest = rw e (rest h.1)
 
     by_test : (b : Bool) → P x ≡ b → (not (list_any (same x) xs) ≡ true) × (differ same xs ≡ true) → (differ same xs ≡ true → find P (by_making xs) ≡ find P xs) → find P (place_making x (by_making xs)) ≡ find P (x ∷ xs)
-    by_test true e h rest = place-found P x (by_making xs) e (any-making P xs (none_else e xs (not_true (list_any (same x) xs) h.0))) ∙ sym (rw e refl)
+    by_test true e h rest = place-found P x (by_making xs) e (any-making P xs (none_else e xs (not-true (list_any (same x) xs) h.0))) ∙ sym (rw e refl)
     by_test false e h rest = place-skip P x (by_making xs) e ∙ rest h.1 ∙ sym (rw e refl)
 
 -- so it is of one making

@@ -1,5 +1,6 @@
 -- The greatest making of the record of a savepoint, and the room that the work leaves for the next.
 use Rattle.std.proofs.Common.{◌≡◌, ℕ, ◌+◌, ◌≤◌, ◌<◌, ◌&&◌, nat_lt, nat_le, max, true, List, [], ◌∷◌, refl, sym, ap, ◌∙◌, arith}
+use Rattle.std.proofs.lemmas.Bool.{and_from, and_parts}
 use Rattle.std.specs.List.{list_all}
 use Rattle.wm_graph.specs.Parts.{Parts, space_of, version_of}
 use Rattle.wm_graph.specs.Rules.{keep_rules, is_savepoint, is_short}
@@ -8,7 +9,7 @@ use Rattle.wm_spec.specs.declared.record.savepoint.Savepoint.{Savepoint}
 use Rattle.wm_state.proofs.Apart.{ruled}
 use Rattle.wm_state.proofs.Growing.{same_counters}
 use Rattle.wm_state.proofs.Named.{ruled_savepoints}
-use Rattle.wm_state.proofs.Tests.{both, and_true, all_if}
+use Rattle.wm_state.proofs.Tests.{all_if}
 
 -- the greatest making, 0 where there is no savepoint
 abbrev pub greatest_making : List Savepoint → ℕ
@@ -18,7 +19,7 @@ greatest_making (x ∷ xs) = max x.making (greatest_making xs)
 -- all savepoints were made before the one of a greater making
 pub made_before : (xs : List Savepoint) (making : ℕ) → greatest_making xs < making → list_all (λ (y : Savepoint). nat_lt y.making making) xs ≡ true
 made_before [] making lt = refl
-made_before (x ∷ xs) making lt = and_true (nat_lt x.making making) _ (first x.making (greatest_making xs) making lt) (made_before xs making (others x.making (greatest_making xs) making lt))
+made_before (x ∷ xs) making lt = and_from (nat_lt x.making making) _ (first x.making (greatest_making xs) making lt) (made_before xs making (others x.making (greatest_making xs) making lt))
   where
     first : (a b c : ℕ) → max a b < c → nat_lt a c ≡ true
     first a b c lt = grind (arith, lt)
@@ -29,7 +30,7 @@ made_before (x ∷ xs) making lt = and_true (nat_lt x.making making) _ (first x.
 greatest_under : (xs : List Savepoint) (n : ℕ) → list_all (λ (y : Savepoint). nat_le y.making n) xs ≡ true → greatest_making xs ≤ n
 greatest_under [] n all = omega arith
 greatest_under (x ∷ xs) n all =
-    let h = both (nat_le x.making n) (list_all (λ (y : Savepoint). nat_le y.making n) xs) all in
+    let h = and_parts (nat_le x.making n) (list_all (λ (y : Savepoint). nat_le y.making n) xs) all in
     greater x.making (greatest_making xs) n h.0 (greatest_under xs n h.1)
   where
     greater : (a b c : ℕ) → nat_le a c ≡ true → b ≤ c → max a b ≤ c
@@ -42,5 +43,5 @@ greatest_room p old rules one =
     let same : r.counters ≡ old = same_counters p old r.counters one r.one in
     greatest_under p.savepoints (old.work + 2)
     (all_if (is_savepoint (space_of p.spaces) (version_of p.versions) old.work) (λ (y : Savepoint). nat_le y.making (old.work + 2))
-    (λ y is. (both (is_short y.name) (nat_le y.making (old.work + 2)) (both (is_short y.name && nat_le y.making (old.work + 2)) _ is).0).1) p.savepoints
+    (λ y is. (and_parts (is_short y.name) (nat_le y.making (old.work + 2)) (and_parts (is_short y.name && nat_le y.making (old.work + 2)) _ is).0).1) p.savepoints
     (ap (λ (c : Counters). list_all (is_savepoint (space_of p.spaces) (version_of p.versions) c.work) p.savepoints) (sym same) ∙ (ruled_savepoints p r.counters.work r.savepoints).each))

@@ -2,6 +2,7 @@
 -- has the marks that it had (by part-changed where one was changed); MarksStand-same, where the workspaces are those of before.
 use Rattle.std.proofs.Common.{◌≡◌, ℕ, ◌==◌, false, List, [], ◌∷◌, Some, refl, sym, ap, subst, ◌∙◌, ◌⊎◌, inl, ⊎_elim}
 use Rattle.std.proofs.lemmas.List.Elements.{All-nil}
+use Rattle.std.proofs.lemmas.Bool.{or_parts}
 use Rattle.std.specs.List.{All, list_any}
 use Rattle.std.specs.Option.{option_map}
 use Rattle.wm_graph.specs.Parts.{Parts}
@@ -11,7 +12,6 @@ use Rattle.wm_spec.specs.declared.record.trace.Trace.{Trace}
 use Rattle.wm_state.specs.State.{Durable, Workspace, workspace_of}
 use Rattle.wm_state.specs.Standing.{IsRealMark, MarksStand, marked_at, settled_from}
 use Rattle.wm_state.proofs.Staying.{WasTold, was_told}
-use Rattle.wm_state.proofs.Tests.{either_false}
 
 -- the marks of a workspace
 abbrev pub marks_in : Workspace → List Settled
@@ -54,7 +54,7 @@ MarksStand-same p q s t marks spaces = MarksStand-alike p q s t marks (λ n. ap 
 -- records of which none is of a workspace say that it has no marks
 pub marked-none : (marks : List Trace) (n place : ℕ) (c : Cell) → list_any (λ (x : Trace). x.space == n) marks ≡ false → marked_at marks n place c ≡ 0
 marked-none [] n place c e = refl
-marked-none (x ∷ xs) n place c e = let h = either_false (x.space == n) (list_any (λ (x : Trace). x.space == n) xs) e in rw (h.0, marked-none xs n place c h.1) refl
+marked-none (x ∷ xs) n place c e = let h = or_parts (x.space == n) (list_any (λ (x : Trace). x.space == n) xs) e in rw (h.0, marked-none xs n place c h.1) refl
 
 pub unmarked : (marks : List Trace) (n : ℕ) (w : Workspace) → w.settled ≡ [] → list_any (λ (x : Trace). x.space == n) marks ≡ false → AreMarked marks n w
 unmarked marks n w none away = record {

@@ -1,8 +1,9 @@
 -- The versions of the records as a list that begins with the newest.
 use Rattle.std.proofs.Common.{◌≡◌, ◌≢◌, ℕ, ◌<◌, ◌==◌, nat_lt, Bool, true, false, not, ◌&&◌, ◌||◌, cond, List, [], ◌∷◌, Some, refl, sym, ap, ◌∙◌, ◌⊎◌, inl, inr, arith}
-use Rattle.std.proofs.lemmas.Bool.{cases_eq, eq-eqb, ne_eqb}
+use Rattle.std.proofs.lemmas.Bool.{cases_eq, eq-eqb, ne_eqb, and_parts, ltb-true, not-true, or_parts, true≢false}
 use Rattle.std.specs.List.{list_any}
 use Rattle.std.specs.Option.{option_map}
+use Rattle.wm_base.proofs.Plain.{eqb-turned, not_less, or_swap}
 use Rattle.wm_graph.specs.Parts.{version_of, has_version}
 use Rattle.wm_graph.specs.Rules.{differ}
 use Rattle.wm_spec.specs.declared.record.version.Version.{Version}
@@ -10,20 +11,13 @@ use Rattle.wm_tree.specs.Versions.{grow, version_in, latest_in, AllBelow}
 use Rattle.wm_tree.specs.declared.version.Version.{Version as Node}
 use Rattle.wm_state.specs.Standing.{node_of, newest_first}
 use Rattle.wm_state.specs.Effects.{is_there}
-use Rattle.wm_state.proofs.Tests.{bool_apart, both, not_true, either_false}
 
 -- each number is below the one before it
 abbrev pub Descend : List Node → Type 0
 Descend [] = Unit {0}
 Descend (x ∷ older) = AllBelow x.number older × Descend older
 
-less : (m n : ℕ) → nat_lt m n ≡ true → m < n
-less m n e = grind (arith, e)
-
-not_less : (m n : ℕ) → nat_lt m n ≡ false → m ≢ n → n < m
-not_less m n e other = grind (arith, e, other)
-
-AllBelow-less : (m n : ℕ) (ns : List Node) → m < n → AllBelow m ns → AllBelow n ns
+pub AllBelow-less : (m n : ℕ) (ns : List Node) → m < n → AllBelow m ns → AllBelow n ns
 AllBelow-less m n [] lt below = tt
 AllBelow-less m n (x ∷ ns) lt below = (omega (arith, lt, below.0), AllBelow-less m n ns lt below.1)
 
@@ -42,23 +36,23 @@ is_new number (x ∷ ns) = not (x.number == number) && is_new number ns
 
 Descend-grow : (x : Node) (ns : List Node) → is_new x.number ns ≡ true → Descend ns → Descend (grow x ns)
 Descend-grow x [] new down = (tt, tt)
-Descend-grow x (y ∷ ns) new down = by_test (nat_lt y.number x.number) refl (both (not (y.number == x.number)) (is_new x.number ns) new) (Descend-grow x ns (both (not (y.number == x.number)) (is_new x.number ns) new).1 down.1)
+Descend-grow x (y ∷ ns) new down = by_test (nat_lt y.number x.number) refl (and_parts (not (y.number == x.number)) (is_new x.number ns) new) (Descend-grow x ns (and_parts (not (y.number == x.number)) (is_new x.number ns) new).1 down.1)
   where
     apart : (not (y.number == x.number)) ≡ true → y.number ≢ x.number
-    apart h same = bool_apart (sym (eq-eqb _ _ same) ∙ not_true (y.number == x.number) h)
+    apart h same = true≢false (sym (eq-eqb _ _ same) ∙ not-true (y.number == x.number) h)
 
     by_test : (b : Bool) → nat_lt y.number x.number ≡ b → ((not (y.number == x.number)) ≡ true) × (is_new x.number ns ≡ true) → Descend (grow x ns) → Descend (cond b (x ∷ y ∷ ns) (y ∷ grow x ns))
-    by_test true e h rest = ((less y.number x.number e, AllBelow-less y.number x.number ns (less y.number x.number e) down.0), down)
+    by_test true e h rest = ((ltb-true y.number x.number e, AllBelow-less y.number x.number ns (ltb-true y.number x.number e) down.0), down)
     by_test false e h rest = (AllBelow-grow y.number x ns (not_less y.number x.number e (apart h.0)) down.0, rest)
 
 -- the version of a number among those that one was put to
 version_in-grow : (x : Node) (ns : List Node) (n : ℕ) → is_new x.number ns ≡ true → version_in (grow x ns) n ≡ version_in (x ∷ ns) n
 version_in-grow x [] n new = refl
-version_in-grow x (y ∷ ns) n new = by_test (nat_lt y.number x.number) (both (not (y.number == x.number)) (is_new x.number ns) new) (version_in-grow x ns n (both (not (y.number == x.number)) (is_new x.number ns) new).1)
+version_in-grow x (y ∷ ns) n new = by_test (nat_lt y.number x.number) (and_parts (not (y.number == x.number)) (is_new x.number ns) new) (version_in-grow x ns n (and_parts (not (y.number == x.number)) (is_new x.number ns) new).1)
   where
     by_number : (not (y.number == x.number)) ≡ true → (y.number ≡ n) ⊎ (y.number ≢ n) → (x.number ≡ n) ⊎ (x.number ≢ n)
         → cond (y.number == n) (Some y) (cond (x.number == n) (Some x) (version_in ns n)) ≡ cond (x.number == n) (Some x) (cond (y.number == n) (Some y) (version_in ns n))
-    by_number apart (inl here) (inl there) = absurd (bool_apart (sym (eq-eqb _ _ (here ∙ sym there)) ∙ not_true (y.number == x.number) apart))
+    by_number apart (inl here) (inl there) = absurd (true≢false (sym (eq-eqb _ _ (here ∙ sym there)) ∙ not-true (y.number == x.number) apart))
     by_number apart (inl here) (inr away) = rw (eq-eqb _ _ here, ne_eqb _ _ away) refl
     by_number apart (inr other) (inl there) = rw (ne_eqb _ _ other, eq-eqb _ _ there) refl
     by_number apart (inr other) (inr away) = rw (ne_eqb _ _ other, ne_eqb _ _ away) refl
@@ -70,7 +64,7 @@ version_in-grow x (y ∷ ns) n new = by_test (nat_lt y.number x.number) (both (n
 
 is_new-grow : (m : ℕ) (x : Node) (ns : List Node) → (x.number == m) ≡ false → is_new m ns ≡ true → is_new m (grow x ns) ≡ true
 is_new-grow m x [] apart new = rw apart refl
-is_new-grow m x (y ∷ ns) apart new = by_test (nat_lt y.number x.number) (both (not (y.number == m)) (is_new m ns) new) (is_new-grow m x ns apart (both (not (y.number == m)) (is_new m ns) new).1)
+is_new-grow m x (y ∷ ns) apart new = by_test (nat_lt y.number x.number) (and_parts (not (y.number == m)) (is_new m ns) new) (is_new-grow m x ns apart (and_parts (not (y.number == m)) (is_new m ns) new).1)
   where
     by_test : (b : Bool) → ((not (y.number == m)) ≡ true) × (is_new m ns ≡ true) → is_new m (grow x ns) ≡ true → is_new m (cond b (x ∷ y ∷ ns) (y ∷ grow x ns)) ≡ true
     by_test true h rest = rw apart new
@@ -82,24 +76,21 @@ numbers_differ vs = differ (λ (v w : Version). v.number == w.number) vs ≡ tru
 newest-new : (m : ℕ) (vs : List Version) → list_any (λ (w : Version). m == w.number) vs ≡ false → is_new m (newest_first vs) ≡ true
 newest-new m [] e = refl
 newest-new m (v ∷ vs) e =
-    let h = either_false (m == v.number) (list_any (λ (w : Version). m == w.number) vs) e in
-    is_new-grow m (node_of v) (newest_first vs) (turned m v.number h.0) (newest-new m vs h.1)
-  where
-    turned : (a b : ℕ) → (a == b) ≡ false → (b == a) ≡ false
-    turned a b h = ne_eqb b a (λ same. bool_apart (sym (eq-eqb a b (sym same)) ∙ h))
+    let h = or_parts (m == v.number) (list_any (λ (w : Version). m == w.number) vs) e in
+    is_new-grow m (node_of v) (newest_first vs) (eqb-turned m v.number h.0) (newest-new m vs h.1)
 
 pub Descend-newest : (vs : List Version) → numbers_differ vs → Descend (newest_first vs)
 Descend-newest [] e = tt
 Descend-newest (v ∷ vs) e =
-    let h = both (not (list_any (λ (w : Version). v.number == w.number) vs)) (differ (λ (v w : Version). v.number == w.number) vs) e in
-    Descend-grow (node_of v) (newest_first vs) (newest-new v.number vs (not_true (list_any (λ (w : Version). v.number == w.number) vs) h.0)) (Descend-newest vs h.1)
+    let h = and_parts (not (list_any (λ (w : Version). v.number == w.number) vs)) (differ (λ (v w : Version). v.number == w.number) vs) e in
+    Descend-grow (node_of v) (newest_first vs) (newest-new v.number vs (not-true (list_any (λ (w : Version). v.number == w.number) vs) h.0)) (Descend-newest vs h.1)
 
 -- a version is found as its record is
 pub version_in-newest : (vs : List Version) → numbers_differ vs → (n : ℕ) → version_in (newest_first vs) n ≡ option_map node_of (version_of vs n)
 version_in-newest [] e n = refl
 version_in-newest (v ∷ vs) e n =
-    let h = both (not (list_any (λ (w : Version). v.number == w.number) vs)) (differ (λ (v w : Version). v.number == w.number) vs) e in
-    version_in-grow (node_of v) (newest_first vs) n (newest-new v.number vs (not_true (list_any (λ (w : Version). v.number == w.number) vs) h.0))
+    let h = and_parts (not (list_any (λ (w : Version). v.number == w.number) vs)) (differ (λ (v w : Version). v.number == w.number) vs) e in
+    version_in-grow (node_of v) (newest_first vs) n (newest-new v.number vs (not-true (list_any (λ (w : Version). v.number == w.number) vs) h.0))
     ∙ by_test (v.number == n) (version_in-newest vs h.1 n)
   where
     by_test : (b : Bool) → version_in (newest_first vs) n ≡ option_map node_of (version_of vs n)
@@ -113,15 +104,9 @@ any-grow : (P : Node → Bool) (x : Node) (ns : List Node) → list_any P (grow 
 any-grow P x [] = refl
 any-grow P x (y ∷ ns) = by_test (nat_lt y.number x.number) (any-grow P x ns)
   where
-    swap : (a b c : Bool) → (a || (b || c)) ≡ (b || (a || c))
-    swap true true c = refl
-    swap true false c = refl
-    swap false true c = refl
-    swap false false c = refl
-
     by_test : (b : Bool) → list_any P (grow x ns) ≡ (P x || list_any P ns) → list_any P (cond b (x ∷ y ∷ ns) (y ∷ grow x ns)) ≡ (P x || (P y || list_any P ns))
     by_test true rest = refl
-    by_test false rest = ap (λ t. P y || t) rest ∙ swap (P y) (P x) (list_any P ns)
+    by_test false rest = ap (λ t. P y || t) rest ∙ or_swap (P y) (P x) (list_any P ns)
 
 -- a workspace has a version among the nodes as it has one among the records
 pub has-newest : (vs : List Version) (n : ℕ) → list_any (λ (x : Node). x.space == n) (newest_first vs) ≡ has_version vs n
@@ -145,7 +130,7 @@ below-apart m (x ∷ ns) k y below found = by_number (cases_eq x.number k) (λ e
     by_number (inr other) rest = rest (sym (ap (λ b. cond b (Some x) (version_in ns k)) (ne_eqb _ _ other)) ∙ found)
 
 pub newest_there : (nodes : List Node) (n : ℕ) → Descend nodes → list_any (λ (x : Node). x.space == n) nodes ≡ true → IsNewest nodes n
-newest_there [] n down has = absurd (bool_apart (sym has))
+newest_there [] n down has = absurd (true≢false (sym has))
 newest_there (x ∷ older) n down has = by_space (cases_eq x.space n) (newest_there older n down.1)
   where
     by_space : (x.space ≡ n) ⊎ (x.space ≢ n) → (list_any (λ (x : Node). x.space == n) older ≡ true → IsNewest older n) → IsNewest (x ∷ older) n

@@ -1,5 +1,6 @@
 -- What stands above a base holds what the workspace's own changes hold.
 use Rattle.std.proofs.Common.{◌≡◌, ℕ, ◌==◌, Bool, true, false, cond, List, [], ◌∷◌, ◌++◌, Option, Some, None, is_some, refl, sym, ap, ◌∙◌}
+use Rattle.std.proofs.lemmas.Bool.{true≢false}
 use Rattle.std.specs.Option.{option_or, option_map}
 use Rattle.wm_graph.specs.Parts.{Parts, space_of}
 use Rattle.wm_period.specs.Pieces.{Held}
@@ -11,7 +12,6 @@ use Rattle.wm_spec.proofs.Lists.{told-append}
 use Rattle.wm_tree.specs.declared.version.Version.{Version as Node}
 use Rattle.wm_state.specs.State.{Durable, Savepoint, Workspace, savepoint_made, workspace_of}
 use Rattle.wm_state.specs.Standing.{Kept, KeptOwn, NamedStand, Newest, Own, OwnsStand, held_of, latest, own_at, saved_as, seen, seen_above, seen_at, stored_at}
-use Rattle.wm_state.proofs.Tests.{bool_apart}
 
 -- what stands at a cell above a base is what is seen there
 pub own-seen : (pieces : List PieceRecord) (nodes : List Node) (base v : ℕ) (c : Cell) (h : Held) → own_at pieces nodes base v c ≡ Some h → seen_at pieces nodes v c ≡ Some h
@@ -35,12 +35,12 @@ pub own_holds : (p : Parts) (base v : ℕ) (under own : List Entry) (c : Cell) �
 own_holds p base v under own c sees covers = by_held (seen_above p base v c) (told own c) refl refl covers
   where
     none_is : (t : Told) → false ≡ is_some (Some t) → ⊥
-    none_is t e = bool_apart (sym e)
+    none_is t e = true≢false (sym e)
 
     by_held : (o : Option Held) (t : Option Told) → seen_above p base v c ≡ o → told own c ≡ t → is_some o ≡ is_some t → o ≡ option_map held_of t
     by_held None None has is e = refl
     by_held None (Some t) has is e = absurd (none_is t e)
-    by_held (Some h) None has is e = absurd (bool_apart e)
+    by_held (Some h) None has is e = absurd (true≢false e)
     by_held (Some h) (Some t) has is e =
         sym (own-seen p.pieces _ base v c h has)
         ∙ sees

@@ -1,6 +1,7 @@
 -- The records stand for the state after the batches that lines make.
 use Rattle.std.proofs.Common.{◌≡◌, ◌≢◌, ℕ, ◌+◌, ◌≤◌, ◌==◌, Bool, true, false, cond, if◌then◌else◌, List, [], ◌∷◌, ◌++◌, Some, refl, sym, ap, subst, ◌∙◌, ◌⊎◌, inl, inr, arith}
 use Rattle.std.proofs.lemmas.Bool.{cases_eq, ne_eqb}
+use Rattle.std.proofs.lemmas.Option.{same_Some}
 use Rattle.std.specs.List.{filter}
 use Rattle.wm_graph.specs.Parts.{Parts, parts_of, as_table}
 use Rattle.wm_graph.specs.Rules.{are_counters, has_key, keep_rules}
@@ -40,11 +41,8 @@ pub found_still : (ss : List Stored) (counters_id id : ℕ) (old new : Counters)
 found_still ss counters_id id old new r sorted counters found other =
     record_at-set counters_id (Some (records.Counters new)) ss sorted id ∙ by_id (cases_eq id counters_id)
   where
-    some_record : (a b : Record) → Some a ≡ Some b → a ≡ b
-    some_record a b h = cc
-
     by_id : (id ≡ counters_id) ⊎ (id ≢ counters_id) → (if id == counters_id then Some (records.Counters new) else record_at ss id) ≡ Some r
-    by_id (inl same) = absurd (other old (some_record r (records.Counters old) (sym found ∙ ap (record_at ss) same ∙ counters)))
+    by_id (inl same) = absurd (other old (same_Some r (records.Counters old) (sym found ∙ ap (record_at ss) same ∙ counters)))
     by_id (inr apart) = rw (ne_eqb _ _ apart) found
 
 -- ---- a table becomes ready

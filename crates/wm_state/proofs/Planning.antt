@@ -1,6 +1,5 @@
 -- The parts of the records after the batches that lines make.
-use Rattle.std.proofs.Common.{◌≡◌, ℕ, Bool, true, List, [], ◌∷◌, ◌++◌, Some, refl, sym, ap, subst, ◌∙◌}
-use Rattle.std.specs.List.{list_all}
+use Rattle.std.proofs.Common.{◌≡◌, ℕ, List, [], ◌∷◌, ◌++◌, Some, refl, sym, ap, subst, ◌∙◌}
 use Rattle.wm_graph.specs.Parts.{Parts, parts_of, as_counters, as_table, as_space, as_version, as_savepoint, as_row, as_piece, as_touch, as_lock, as_hist, as_mark, as_turn}
 use Rattle.wm_spec.specs.Records.{record_at}
 use Rattle.wm_spec.specs.declared.record.Record.{Record}
@@ -21,7 +20,6 @@ use Rattle.wm_state.specs.ById.{Ascend, set_at, applied}
 use Rattle.wm_state.specs.Batches.{AllUnder, create_batch}
 use Rattle.wm_state.proofs.ByKind.{kinds, stored, Split, split_of, set-split, set-behind, kinds-same, kinds-one, kinds-more, kinds-no_more}
 use Rattle.wm_state.proofs.Tables.{created}
-use Rattle.wm_state.proofs.Tests.{all_middle}
 
 -- the parts, kind by kind
 abbrev made : List Counters → List Table → List Space → List Version → List Savepoint → List RowRecord → List PieceRecord → List Trace → List Lock → List Hist → List Trace → List Turn → Parts
@@ -194,15 +192,6 @@ parts-more_turn ss id x = made_same
     (kinds-no_more as_hist ss id (records.Turn x) refl)
     (kinds-no_more as_mark ss id (records.Turn x) refl)
     (kinds-more as_turn ss id (records.Turn x) x refl)
-
--- a piece that is found is one of the pieces
-pub piece_found : (P : PieceRecord → Bool) (ss : List Stored) (id : ℕ) (x : PieceRecord) → record_at ss id ≡ Some (records.Piece x) → list_all P (parts_of ss).pieces ≡ true → P x ≡ true
-unfolding parts_of
-piece_found P ss id x found all = by_split (split_of ss id (records.Piece x) found)
-  where
-    by_split : Split ss id (records.Piece x) → P x ≡ true
-    by_split s = all_middle P x (kinds as_piece s.front) (kinds as_piece s.back)
-        (ap (list_all P) (sym (ap (kinds as_piece) s.is ∙ kinds-one as_piece s.front s.back id (records.Piece x) x refl)) ∙ all)
 
 -- ---- a table is made
 

@@ -1,7 +1,7 @@
 -- Tables that are ready for rows stay so where tables are made and made ready, with or without their history; the records have the tables
 -- of the state.
 use Rattle.std.proofs.Common.{◌≡◌, ◌≢◌, ℕ, ◌==◌, nat_lt, Bool, true, false, cond, List, [], ◌∷◌, ◌++◌, Option, Some, None, refl, sym, ap, ◌∙◌, ◌⊎◌, inl, inr, arith}
-use Rattle.std.proofs.lemmas.Bool.{cases_eq, eq-eqb, ne_eqb, eqb-true}
+use Rattle.std.proofs.lemmas.Bool.{cases_eq, eq-eqb, ne_eqb, eqb-true, true≢false}
 use Rattle.std.specs.List.{All}
 use Rattle.std.specs.Option.{option_map_or}
 use Rattle.wm_graph.specs.Parts.{Parts, table_of}
@@ -9,7 +9,7 @@ use Rattle.wm_spec.specs.Lists.{Entry}
 use Rattle.wm_spec.specs.declared.record.table.Table.{Table}
 use Rattle.wm_state.specs.State.{Durable, Readiness, enabled}
 use Rattle.wm_state.specs.Standing.{IsReal, TablesStand, by_number, has_history, is_ready, place_table}
-use Rattle.wm_state.proofs.Tests.{bool_apart, find_push}
+use Rattle.wm_state.proofs.Tests.{find_push}
 
 -- ---- the tables of the state are those of the records
 
@@ -49,7 +49,7 @@ KeepReady-found : (was now : List Table) → ((n : ℕ) (t : Table) → table_of
 KeepReady-found was now each = record { on = λ n is. ap (λ o. option_map_or (λ (t : Table). t.versioned) o false) (still n is) ∙ is; history = λ n is. ap (λ o. option_map_or (λ (t : Table). t.history) o false) (still n is) }
   where
     by_table : (n : ℕ) (o : Option Table) → table_of was n ≡ o → option_map_or (λ (t : Table). t.versioned) o false ≡ true → table_of now n ≡ o
-    by_table n None found is = absurd (bool_apart (sym is))
+    by_table n None found is = absurd (true≢false (sym is))
     by_table n (Some t) found is = each n t found is
 
     still : (n : ℕ) → is_ready was n ≡ true → table_of now n ≡ table_of was n
@@ -82,7 +82,7 @@ KeepReady-enabled was now how t there off same = KeepReady-found was now (λ n u
     one_table u e = cc
 
     other : (n : ℕ) (u : Table) → table_of was n ≡ Some u → u.versioned ≡ true → n ≢ t.number
-    other n u found on here = bool_apart (sym on ∙ ap (λ (x : Table). x.versioned) (one_table u (sym found ∙ ap (table_of was) here ∙ there)) ∙ off)
+    other n u found on here = true≢false (sym on ∙ ap (λ (x : Table). x.versioned) (one_table u (sym found ∙ ap (table_of was) here ∙ there)) ∙ off)
 
 -- ---- entries of tables that stay ready
 

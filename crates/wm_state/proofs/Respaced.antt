@@ -1,7 +1,7 @@
 -- The rules hold of the records with another record of a workspace in the place of its own, where both have one number, name and
 -- parent, and see the same versions.
 use Rattle.std.proofs.Common.{◌≡◌, ◌≢◌, ℕ, ◌^◌, ◌==◌, nat_lt, nat_le, Bool, true, false, not, ◌&&◌, ◌||◌, cond, if◌then◌else◌, List, [], ◌∷◌, ◌++◌, Option, Some, None, is_some, refl, sym, ap, ◌∙◌, length, length-append}
-use Rattle.std.proofs.lemmas.Bool.{eq-eqb, ne_eqb}
+use Rattle.std.proofs.lemmas.Bool.{eq-eqb, ne_eqb, and_from, and_parts, not-true, or_parts, true≢false}
 use Rattle.std.specs.List.{list_all, list_any, find}
 use Rattle.std.specs.Option.{option_map_or}
 use Rattle.std.specs.Str.{bytes_eq}
@@ -9,7 +9,7 @@ use Rattle.wm_graph.specs.Parts.{Parts, space_of, version_of, has_version}
 use Rattle.wm_graph.specs.Rules.{are_spaces, is_space, is_placed, is_short, are_versions, is_version, is_version_of, has_versions, stands_under, differ}
 use Rattle.wm_spec.specs.declared.record.space.Space.{Space}
 use Rattle.wm_spec.specs.declared.record.version.Version.{Version}
-use Rattle.wm_state.proofs.Tests.{bool_apart, both, and_true, not_true, either_false, all_if, all_swap, all_middle, differ_swap, some_swap}
+use Rattle.wm_state.proofs.Tests.{all_if, all_swap, all_middle, differ_swap, some_swap}
 
 -- ---- one in the place of another
 
@@ -19,7 +19,7 @@ found_if : {A : Type 0} (P f g : A → Bool) (a b : A) → P b ≡ P a → ((x :
 found_if {A = A} P f g a b same to new [] back = by_test (P a) same
   where
     other : (o : Option A) → option_map_or f o false ≡ true → option_map_or g o false ≡ true
-    other None e = absurd (bool_apart (sym e))
+    other None e = absurd (true≢false (sym e))
     other (Some x) e = to x e
 
     by_test : (t : Bool) → P b ≡ t → option_map_or f (cond t (Some a) (find P back)) false ≡ true → option_map_or g (cond (P b) (Some b) (find P back)) false ≡ true
@@ -36,16 +36,16 @@ found_if P f g a b same to new (x ∷ front) back = by_test (P x) (found_if P f 
 before-none : {A : Type 0} (same : A → A → Bool) (front back : List A) (a : A) → differ same (front ++ a ∷ back) ≡ true → list_any (λ y. same y a) front ≡ false
 before-none same [] back a e = refl
 before-none same (y ∷ front) back a e =
-    let h = both (not (list_any (same y) (front ++ a ∷ back))) (differ same (front ++ a ∷ back)) e in
-    rw (middle-none (same y) front back a (not_true (list_any (same y) (front ++ a ∷ back)) h.0), before-none same front back a h.1) refl
+    let h = and_parts (not (list_any (same y) (front ++ a ∷ back))) (differ same (front ++ a ∷ back)) e in
+    rw (middle-none (same y) front back a (not-true (list_any (same y) (front ++ a ∷ back)) h.0), before-none same front back a h.1) refl
   where
     middle-none : {A : Type 0} (P : A → Bool) (front back : List A) (a : A) → list_any P (front ++ a ∷ back) ≡ false → P a ≡ false
-    middle-none P [] back a e = (either_false (P a) (list_any P back) e).0
-    middle-none P (z ∷ front) back a e = middle-none P front back a (either_false (P z) (list_any P (front ++ a ∷ back)) e).1
+    middle-none P [] back a e = (or_parts (P a) (list_any P back) e).0
+    middle-none P (z ∷ front) back a e = middle-none P front back a (or_parts (P z) (list_any P (front ++ a ∷ back)) e).1
 
 find-middle : {A : Type 0} (P : A → Bool) (front back : List A) (a : A) → list_any P front ≡ false → P a ≡ true → find P (front ++ a ∷ back) ≡ Some a
 find-middle P [] back a none is = rw is refl
-find-middle P (y ∷ front) back a none is = let h = either_false (P y) (list_any P front) none in rw h.0 (find-middle P front back a h.1 is)
+find-middle P (y ∷ front) back a none is = let h = or_parts (P y) (list_any P front) none in rw h.0 (find-middle P front back a h.1 is)
 
 find-past : {A : Type 0} (P : A → Bool) (front back : List A) (a b : A) → P a ≡ false → P b ≡ false → find P (front ++ b ∷ back) ≡ find P (front ++ a ∷ back)
 find-past P [] back a b e f = rw (e, f) refl
@@ -77,29 +77,29 @@ space_if front back a b s may e = rw (placed_same front back a b s may) e
 
 space_replaced : (spaces : ℕ → Option Space) (a b : Space) → MayReplace a b → is_counted b ≡ true → is_space spaces a ≡ true → is_space spaces b ≡ true
 space_replaced spaces a b may counted e =
-    let c = both (is_short b.writer) _ counted in
-    let h = both (is_placed spaces a && (is_short a.name && is_short a.writer)) _ e in
-    let g = both (is_placed spaces a) (is_short a.name && is_short a.writer) h.0 in
-    let k = both (is_short a.name) (is_short a.writer) g.1 in
-    and_true (is_placed spaces b && (is_short b.name && is_short b.writer)) _
-    (and_true (is_placed spaces b) (is_short b.name && is_short b.writer) (placed_alike spaces a b may ∙ g.0) (and_true (is_short b.name) (is_short b.writer) (ap is_short may.name ∙ k.0) c.0))
+    let c = and_parts (is_short b.writer) _ counted in
+    let h = and_parts (is_placed spaces a && (is_short a.name && is_short a.writer)) _ e in
+    let g = and_parts (is_placed spaces a) (is_short a.name && is_short a.writer) h.0 in
+    let k = and_parts (is_short a.name) (is_short a.writer) g.1 in
+    and_from (is_placed spaces b && (is_short b.name && is_short b.writer)) _
+    (and_from (is_placed spaces b) (is_short b.name && is_short b.writer) (placed_alike spaces a b may ∙ g.0) (and_from (is_short b.name) (is_short b.writer) (ap is_short may.name ∙ k.0) c.0))
     c.1
 
 pub spaces_replaced : (front back : List Space) (a b : Space) → MayReplace a b → is_counted b ≡ true → are_spaces (front ++ a ∷ back) ≡ true → are_spaces (front ++ b ∷ back) ≡ true
 spaces_replaced front back a b may counted e =
     let old = front ++ a ∷ back in
     let new = front ++ b ∷ back in
-    let first = both (nat_le (length old) 1024 && is_some (space_of old 0)) _ e in
-    let sized = both (nat_le (length old) 1024) (is_some (space_of old 0)) first.0 in
-    let numbers = both (differ (λ (s t : Space). s.number == t.number) old) _ first.1 in
-    let names = both (differ (λ (s t : Space). bytes_eq s.name t.name) old) (list_all (is_space (space_of old)) old) numbers.1 in
-    and_true (nat_le (length new) 1024 && is_some (space_of new 0)) _
-    (and_true (nat_le (length new) 1024) (is_some (space_of new 0))
+    let first = and_parts (nat_le (length old) 1024 && is_some (space_of old 0)) _ e in
+    let sized = and_parts (nat_le (length old) 1024) (is_some (space_of old 0)) first.0 in
+    let numbers = and_parts (differ (λ (s t : Space). s.number == t.number) old) _ first.1 in
+    let names = and_parts (differ (λ (s t : Space). bytes_eq s.name t.name) old) (list_all (is_space (space_of old)) old) numbers.1 in
+    and_from (nat_le (length new) 1024 && is_some (space_of new 0)) _
+    (and_from (nat_le (length new) 1024) (is_some (space_of new 0))
     (ap (λ n. nat_le n 1024) (length-append front (b ∷ back) ∙ sym (length-append front (a ∷ back))) ∙ sized.0)
     (some_swap (λ (x : Space). x.number == 0) a b (ap (λ k. k == 0) may.number) front back ∙ sized.1))
-    (and_true (differ (λ (s t : Space). s.number == t.number) new) _
+    (and_from (differ (λ (s t : Space). s.number == t.number) new) _
     (differ_swap (λ (s t : Space). s.number == t.number) a b (λ x. ap (λ k. k == x.number) may.number) (λ x. ap (λ k. x.number == k) may.number) front back ∙ numbers.0)
-    (and_true (differ (λ (s t : Space). bytes_eq s.name t.name) new) (list_all (is_space (space_of new)) new)
+    (and_from (differ (λ (s t : Space). bytes_eq s.name t.name) new) (list_all (is_space (space_of new)) new)
     (differ_swap (λ (s t : Space). bytes_eq s.name t.name) a b (λ x. ap (λ k. bytes_eq k x.name) may.name) (λ x. ap (λ k. bytes_eq x.name k) may.name) front back ∙ names.0)
     (all_swap (is_space (space_of old)) (is_space (space_of new)) a b front back (λ s. space_if front back a b s may)
     (space_replaced (space_of new) a b may counted (space_if front back a b a may (all_middle (is_space (space_of old)) a front back names.1)))
@@ -111,8 +111,8 @@ version_if : (front back : List Space) (a b : Space) (versions : ℕ → Option 
     → is_version (space_of (front ++ b ∷ back)) versions next v ≡ true
 version_if front back a b versions next v may e =
     let asks : Space → Bool = λ (s : Space). if v.parent == 0 then v.number == 1 else stands_under versions v s in
-    let h = both (nat_lt v.number next) (option_map_or asks (space_of (front ++ a ∷ back) v.space) false) e in
-    and_true (nat_lt v.number next) (option_map_or asks (space_of (front ++ b ∷ back) v.space) false) h.0
+    let h = and_parts (nat_lt v.number next) (option_map_or asks (space_of (front ++ a ∷ back) v.space) false) e in
+    and_from (nat_lt v.number next) (option_map_or asks (space_of (front ++ b ∷ back) v.space) false) h.0
     (found_if (λ (s : Space). s.number == v.space) asks asks a b (ap (λ k. k == v.space) may.number) (λ s is. is)
     (λ is. ap (λ k. if v.parent == 0 then v.number == 1 else (nat_lt v.parent v.number && (is_version_of versions v.parent v.space || is_version_of versions v.parent k))) may.parent ∙ is) front back h.1)
 
@@ -122,11 +122,11 @@ has_alike has versions a b may = rw (may.number, may.parent, may.birth, may.base
 pub versions_replaced : (p q : Parts) (front back : List Space) (a b : Space) (next : ℕ) → MayReplace a b → p.spaces ≡ front ++ a ∷ back → q.spaces ≡ front ++ b ∷ back → q.versions ≡ p.versions
     → are_versions p next ≡ true → are_versions q next ≡ true
 versions_replaced p q front back a b next may old new same e =
-    let h = both (differ (λ (v w : Version). v.number == w.number) p.versions) _ e in
-    let g = both (list_all (is_version (space_of p.spaces) (version_of p.versions) next) p.versions) (list_all (has_versions (has_version p.versions) (version_of p.versions)) p.spaces) h.1 in
+    let h = and_parts (differ (λ (v w : Version). v.number == w.number) p.versions) _ e in
+    let g = and_parts (list_all (is_version (space_of p.spaces) (version_of p.versions) next) p.versions) (list_all (has_versions (has_version p.versions) (version_of p.versions)) p.spaces) h.1 in
     rw (same, new)
-    (and_true (differ (λ (v w : Version). v.number == w.number) p.versions) _ h.0
-    (and_true (list_all (is_version (space_of (front ++ b ∷ back)) (version_of p.versions) next) p.versions) (list_all (has_versions (has_version p.versions) (version_of p.versions)) (front ++ b ∷ back))
+    (and_from (differ (λ (v w : Version). v.number == w.number) p.versions) _ h.0
+    (and_from (list_all (is_version (space_of (front ++ b ∷ back)) (version_of p.versions) next) p.versions) (list_all (has_versions (has_version p.versions) (version_of p.versions)) (front ++ b ∷ back))
     (all_if (is_version (space_of p.spaces) (version_of p.versions) next) (is_version (space_of (front ++ b ∷ back)) (version_of p.versions) next)
     (λ v is. version_if front back a b (version_of p.versions) next v may (ap (λ ss. is_version (space_of ss) (version_of p.versions) next v) (sym old) ∙ is)) p.versions g.0)
     (let there : list_all (has_versions (has_version p.versions) (version_of p.versions)) (front ++ a ∷ back) ≡ true = ap (list_all (has_versions (has_version p.versions) (version_of p.versions))) (sym old) ∙ g.1 in
@@ -138,8 +138,8 @@ versions_replaced p q front back a b next may old new same e =
 -- the numbers of workspaces differ
 numbers_of : (spaces : List Space) → are_spaces spaces ≡ true → differ (λ (s t : Space). s.number == t.number) spaces ≡ true
 numbers_of spaces e =
-    let h = both (nat_le (length spaces) 1024 && is_some (space_of spaces 0)) _ e in
-    (both (differ (λ (s t : Space). s.number == t.number) spaces) _ h.1).0
+    let h = and_parts (nat_le (length spaces) 1024 && is_some (space_of spaces 0)) _ e in
+    (and_parts (differ (λ (s t : Space). s.number == t.number) spaces) _ h.1).0
 
 -- the one in the middle is found by its number
 pub space_here : (front back : List Space) (a : Space) (n : ℕ) → are_spaces (front ++ a ∷ back) ≡ true → a.number ≡ n → space_of (front ++ a ∷ back) n ≡ Some a

@@ -1,5 +1,7 @@
 -- What a batch leaves as it is: the records of the ids that it does not have, and so each row.
 use Rattle.std.proofs.Common.{◌≡◌, ◌≢◌, ℕ, ◌+◌, ◌<◌, ◌==◌, Bool, true, false, List, [], ◌∷◌, ◌++◌, map, Some, refl, sym, ap, ◌∙◌, arith}
+use Rattle.std.proofs.lemmas.Bool.{eqb-false, or_parts, true≢false}
+use Rattle.std.proofs.lemmas.Option.{same_Some}
 use Rattle.std.specs.List.{list_any}
 use Rattle.wm_spec.specs.Records.{record_at}
 use Rattle.wm_spec.specs.declared.record.Record.{Record}
@@ -10,10 +12,8 @@ use Rattle.wm_spec.specs.declared.record.stored.Stored.{Stored}
 use Rattle.wm_state.specs.Batches.{AllUnder, drop_one, is_dropped}
 use Rattle.wm_state.specs.ById.{applied, set_at}
 use Rattle.wm_state.specs.Writes.{put_all}
-use Rattle.wm_state.proofs.ById.{either-none, eqb-apart}
 use Rattle.wm_state.proofs.ByKind.{under_found}
 use Rattle.wm_state.proofs.Putting.{set_other}
-use Rattle.wm_state.proofs.Tests.{bool_apart}
 
 -- ---- ids that a batch does not have
 
@@ -30,7 +30,7 @@ stays (c ∷ cs) ss id away = stays cs (set_at c.id c.becomes ss) id away.1 ∙ 
 -- an id that is none of those of the changes
 pub away_outside : (cs : List Change) (id : ℕ) → list_any (λ k. k == id) (map (λ (c : Change). c.id) cs) ≡ false → AwayFrom id cs
 away_outside [] id e = tt
-away_outside (c ∷ cs) id e = let h = either-none (c.id == id) (list_any (λ k. k == id) (map (λ (c : Change). c.id) cs)) e in (eqb-apart c.id id h.0, away_outside cs id h.1)
+away_outside (c ∷ cs) id e = let h = or_parts (c.id == id) (list_any (λ k. k == id) (map (λ (c : Change). c.id) cs)) e in (eqb-false c.id id h.0, away_outside cs id h.1)
 
 -- changes behind others
 pub away_append : (id : ℕ) (cs ds : List Change) → AwayFrom id cs → AwayFrom id ds → AwayFrom id (cs ++ ds)
@@ -40,7 +40,7 @@ away_append id (c ∷ cs) ds one two = (one.0, away_append id cs ds one.1 two)
 -- an id that is not dropped
 pub away_dropped : (id : ℕ) (ids : List ℕ) → is_dropped ids id ≡ false → AwayFrom id (map drop_one ids)
 away_dropped id [] e = tt
-away_dropped id (k ∷ ks) e = let h = either-none (k == id) (is_dropped ks id) e in (eqb-apart k id h.0, away_dropped id ks h.1)
+away_dropped id (k ∷ ks) e = let h = or_parts (k == id) (is_dropped ks id) e in (eqb-false k id h.0, away_dropped id ks h.1)
 
 -- an id below is another
 pub below_apart : (id from : ℕ) → id < from → from ≢ id
@@ -70,10 +70,7 @@ is_row r = false
 
 -- the id of another record is none of a row
 pub row_apart : (rs : List Stored) (k id : ℕ) (q : Record) (r : RowRecord) → record_at rs k ≡ Some q → is_row q ≡ false → record_at rs id ≡ Some (records.Row r) → k ≢ id
-row_apart rs k id q r there other found same = bool_apart (sym (ap is_row (some_record q (records.Row r) (sym there ∙ ap (record_at rs) same ∙ found))) ∙ other)
-  where
-    some_record : (a b : Record) → Some a ≡ Some b → a ≡ b
-    some_record a b h = cc
+row_apart rs k id q r there other found same = true≢false (sym (ap is_row (same_Some q (records.Row r) (sym there ∙ ap (record_at rs) same ∙ found))) ∙ other)
 
 -- nor is a new one
 pub new_apart : (rs : List Stored) (next id : ℕ) (r : RowRecord) → AllUnder next rs → record_at rs id ≡ Some (records.Row r) → next ≢ id

@@ -1,9 +1,10 @@
 -- The savepoints of a workspace and their records, looked up in one way and in another.
 use Rattle.std.proofs.Common.{◌≡◌, ℕ, ◌==◌, Bool, true, false, not, ◌&&◌, cond, List, [], ◌∷◌, map, length, Option, Some, None, refl, sym, ap, ◌∙◌}
-use Rattle.std.proofs.lemmas.Bool.{eq-eqb, eqb-true}
+use Rattle.std.proofs.lemmas.Bool.{eq-eqb, eqb-true, and_from, and_parts, not-true, or_parts}
 use Rattle.std.proofs.lemmas.List.{length-map}
 use Rattle.std.proofs.lemmas.List.Sums.{length-filter}
 use Rattle.std.proofs.lemmas.Slice.Eq.{bytes_eq-Decides}
+use Rattle.std.proofs.lemmas.Option.{same_Some, none-some}
 use Rattle.std.specs.List.{list_any, filter, find, count_by}
 use Rattle.std.specs.Option.{option_map}
 use Rattle.std.specs.Str.{bytes_eq}
@@ -16,7 +17,7 @@ use Rattle.wm_state.proofs.Apart.{ruled}
 use Rattle.wm_state.proofs.Making.{same_making, making-itself, is_made, length-making, differ-making, find-one, find-making}
 use Rattle.wm_state.proofs.Named.{ruled_savepoints}
 use Rattle.wm_state.proofs.Mapped.{find-alike, find-again, find-filter, differ-alike}
-use Rattle.wm_state.proofs.Tests.{both, and_true, not_true, either_false, differ_filter}
+use Rattle.wm_state.proofs.Tests.{differ_filter}
 
 -- ---- what the rules say of savepoints
 
@@ -41,9 +42,9 @@ abbrev same_name : Record → Record → Bool
 same_name x y = bytes_eq x.name y.name
 
 -- in one workspace names differ
-names-apart : (n : ℕ) (xs : List Record) → differ same_savepoint xs ≡ true → differ same_name (filter (λ (x : Record). x.space == n) xs) ≡ true
+pub names-apart : (n : ℕ) (xs : List Record) → differ same_savepoint xs ≡ true → differ same_name (filter (λ (x : Record). x.space == n) xs) ≡ true
 names-apart n [] apart = refl
-names-apart n (x ∷ xs) apart = by_space (x.space == n) refl (both (not (list_any (same_savepoint x) xs)) (differ same_savepoint xs) apart) (names-apart n xs)
+names-apart n (x ∷ xs) apart = by_space (x.space == n) refl (and_parts (not (list_any (same_savepoint x) xs)) (differ same_savepoint xs) apart) (names-apart n xs)
   where
     rest_of : List Record
     rest_of = filter (λ (y : Record). y.space == n) xs
@@ -51,7 +52,7 @@ names-apart n (x ∷ xs) apart = by_space (x.space == n) refl (both (not (list_a
     none_named : x.space ≡ n → (ys : List Record) → list_any (same_savepoint x) ys ≡ false → list_any (same_name x) (filter (λ (y : Record). y.space == n) ys) ≡ false
     none_named here [] none = refl
     none_named here (y ∷ ys) none =
-        let h = either_false (same_savepoint x y) (list_any (same_savepoint x) ys) none in
+        let h = or_parts (same_savepoint x y) (list_any (same_savepoint x) ys) none in
         by_other (y.space == n) refl (none_named here ys h.1) h.0
       where
         by_other : (b : Bool) → (y.space == n) ≡ b → list_any (same_name x) (filter (λ (z : Record). z.space == n) ys) ≡ false → same_savepoint x y ≡ false
@@ -62,7 +63,7 @@ names-apart n (x ∷ xs) apart = by_space (x.space == n) refl (both (not (list_a
     by_space : (b : Bool) → (x.space == n) ≡ b → (not (list_any (same_savepoint x) xs) ≡ true) × (differ same_savepoint xs ≡ true) → (differ same_savepoint xs ≡ true → differ same_name rest_of ≡ true)
         → differ same_name (cond b (x ∷ rest_of) rest_of) ≡ true
     by_space true e h rest =
-        and_true (not (list_any (same_name x) rest_of)) (differ same_name rest_of) (ap not (none_named (eqb-true _ _ e) xs (not_true (list_any (same_savepoint x) xs) h.0))) (rest h.1)
+        and_from (not (list_any (same_name x) rest_of)) (differ same_name rest_of) (ap not (none_named (eqb-true _ _ e) xs (not-true (list_any (same_savepoint x) xs) h.0))) (rest h.1)
     by_space false e h rest = rest h.1
 
 pub named_sorted : (p : Parts) → keep_rules p ≡ true → (n : ℕ) (name : List ℕ) → named_as p n name ≡ find (λ (x : Record). bytes_eq name x.name) (saved_in p n)
@@ -130,16 +131,10 @@ passed_some : (p : Parts) (s : Durable) (n : ℕ) (w : Workspace) → keep_rules
     → (k : Savepoint) × (find (λ (j : Savepoint). P (fields_saved j)) w.savepoints ≡ Some k) × IsSaved p n w x k
 passed_some p s n w rules st found P x recorded = by_savepoint (find (λ (j : Savepoint). P (fields_saved j)) w.savepoints) refl (sym (ap (option_map saved_fields) recorded) ∙ passed_alike p s n w st found P)
   where
-    some_fields : (f g : SavepointFields) → Some f ≡ Some g → f ≡ g
-    some_fields f g h = cc
-
-    none_some : (f : SavepointFields) → Some f ≡ (let nothing : Option SavepointFields = None in nothing) → ⊥
-    none_some f h = cc
-
     by_savepoint : (o : Option Savepoint) → find (λ (j : Savepoint). P (fields_saved j)) w.savepoints ≡ o → Some (saved_fields x) ≡ option_map fields_saved (find (λ (j : Savepoint). P (fields_saved j)) w.savepoints)
         → (k : Savepoint) × (find (λ (j : Savepoint). P (fields_saved j)) w.savepoints ≡ Some k) × IsSaved p n w x k
-    by_savepoint None is same = absurd (none_some (saved_fields x) (same ∙ ap (option_map fields_saved) is))
-    by_savepoint (Some k) is same = (k, is, both_saved p s n w rules st found P x k recorded is (some_fields (saved_fields x) (fields_saved k) (same ∙ ap (option_map fields_saved) is)))
+    by_savepoint None is same = absurd (none-some (saved_fields x) (sym (same ∙ ap (option_map fields_saved) is)))
+    by_savepoint (Some k) is same = (k, is, both_saved p s n w rules st found P x k recorded is (same_Some (saved_fields x) (fields_saved k) (same ∙ ap (option_map fields_saved) is)))
 
 -- and where none does, none does
 pub passed_none : (p : Parts) (s : Durable) (n : ℕ) (w : Workspace) → SavepointsStand p s → workspace_of s.spaces n ≡ Some w → (P : SavepointFields → Bool) → find (λ (y : Record). P (saved_fields y)) (saved_in p n) ≡ None

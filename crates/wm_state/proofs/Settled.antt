@@ -1,6 +1,7 @@
 -- Where the records stand that a batch is about.
 use Rattle.std.proofs.Common.{◌≡◌, ◌≢◌, ℕ, ◌<◌, List, ◌∷◌, [], Option, Some, None, refl, sym, ap, ◌∙◌}
 use Rattle.std.specs.Option.{option_and_then}
+use Rattle.wm_base.proofs.Plain.{none_some}
 use Rattle.wm_graph.specs.Parts.{as_space, parts_of, space_of}
 use Rattle.wm_spec.specs.Records.{record_at}
 use Rattle.wm_spec.specs.declared.record.Record.{Record}
@@ -43,13 +44,10 @@ pub space_at : (rs : List Stored) (n : ℕ) (o : Option ℕ) (id : ℕ) (a : Spa
     → record_at rs id ≡ Some (records.Space a)
 space_at rs n o id a is there found = by_record (record_at rs id) (ap (λ (k : Option ℕ). option_and_then as_space (option_and_then (record_at rs) k)) (sym is) ∙ there ∙ found)
   where
-    none_some : (x : Option Space) → x ≡ None → x ≡ Some a → ⊥
-    none_some x none some = cc
-
     some_space : (b : Space) → Some b ≡ Some a → b ≡ a
     some_space b h = cc
 
     by_record : (r : Option Record) → option_and_then as_space r ≡ Some a → r ≡ Some (records.Space a)
-    by_record None h = absurd (none_some (let none : Option Space = None in none) refl h)
+    by_record None h = absurd (none_some (let none : Option Space = None in none) a refl h)
     by_record (Some (records.Space b)) h = ap (λ (s : Space). Some (records.Space s)) (some_space b h)
-    by_record (Some _) h = absurd (none_some (let none : Option Space = None in none) refl h)
+    by_record (Some _) h = absurd (none_some (let none : Option Space = None in none) a refl h)

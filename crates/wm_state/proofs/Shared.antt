@@ -1,5 +1,7 @@
 -- What a period shares with the first stretch that it overlaps.
 use Rattle.std.proofs.Common.{◌≡◌, ℕ, ◌<◌, ◌&&◌, nat_lt, nat_le, Bool, true, false, if◌then◌else◌, List, [], ◌∷◌, ◌++◌, Option, Some, None, is_some, max, refl, sym, ap, ◌∙◌, arith}
+use Rattle.std.proofs.lemmas.Option.{same_Some, none-some}
+use Rattle.std.proofs.lemmas.Bool.{true≢false}
 use Rattle.std.specs.Bool.{then_some}
 use Rattle.std.specs.Option.{option_or}
 use Rattle.wm_base.specs.Period.{Span, covers, overlaps, shared}
@@ -9,7 +11,6 @@ use Rattle.wm_spec.specs.Lists.{Entry, stamp_at}
 use Rattle.wm_spec.specs.Stretches.{Stretch, value_at, AreMaximal, rows_of_key}
 use Rattle.wm_state.specs.Listing.{AreRowsOf, first_shared, span_on}
 use Rattle.wm_state.proofs.Listed.{HoldsAll, key_rows, seen_is}
-use Rattle.wm_state.proofs.Tests.{bool_apart}
 
 -- of stretches one behind others the first that it overlaps is one of the first, where it overlaps one of them
 pub shared-append : (period : Span) (xs ys : List Stretch) → first_shared period (xs ++ ys) ≡ option_or (first_shared period xs) (first_shared period ys)
@@ -31,9 +32,6 @@ shared_of p version es table key period ss holds are = ap (first_shared period) 
 abbrev has : ℕ → ℕ → ℕ → Bool
 has from till t = nat_le from t && nat_lt t till
 
-some_none : {A : Type 0} (x : A) → Some x ≡ None → ⊥
-some_none x e = cc
-
 -- where it shares nothing, nothing is held at its moments
 pub shared-none : (period : Span) (ss : List Stretch) → first_shared period ss ≡ None → (t : ℕ) → covers period t ≡ true → value_at ss t ≡ None
 shared-none period [] none t in_it = refl
@@ -44,18 +42,15 @@ shared-none period (s ∷ ss) none t in_it = by_test (overlaps (span_on s) perio
 
     by_test : (b : Bool) → overlaps (span_on s) period ≡ b → (if b then Some (shared (span_on s) period) else first_shared period ss) ≡ None
         → (first_shared period ss ≡ None → (t : ℕ) → covers period t ≡ true → value_at ss t ≡ None) → option_or (value_at ss t) (then_some (has s.from s.till t) s.stamp) ≡ None
-    by_test true e h rest = absurd (some_none (shared (span_on s) period) h)
+    by_test true e h rest = absurd (none-some (shared (span_on s) period) (sym h))
     by_test false e h rest = rw (rest h t in_it, apart s.from s.till period.from period.till t e in_it) refl
 
 -- what it shares begins at a moment of it, at which a row is held
 pub shared-some : (period : Span) (ss : List Stretch) (low : ℕ) (found : Span) → period.from < period.till → AreMaximal low ss → first_shared period ss ≡ Some found
     → (covers period found.from ≡ true) × (is_some (value_at ss found.from) ≡ true)
-shared-some period [] low found lasts maximal e = absurd (some_none found (sym e))
+shared-some period [] low found lasts maximal e = absurd (none-some found (sym (sym e)))
 shared-some period (s ∷ ss) low found lasts maximal e = by_test (overlaps (span_on s) period) refl e (shared-some period ss s.till found lasts maximal.3)
   where
-    some_same : (a b : Span) → Some a ≡ Some b → a ≡ b
-    some_same a b e = cc
-
     -- the later of two beginnings lies in both
     in_first : (a b c d : ℕ) → a < b → (nat_lt a d && nat_lt c b) ≡ true → has a b (max a c) ≡ true
     in_first a b c d one e = grind (arith, one, e)
@@ -68,14 +63,14 @@ shared-some period (s ∷ ss) low found lasts maximal e = by_test (overlaps (spa
     either (Some n) stamp = refl
 
     more : (o : Option ℕ) (p : Option ℕ) → is_some o ≡ true → is_some (option_or o p) ≡ true
-    more None p e = absurd (bool_apart (sym e))
+    more None p e = absurd (true≢false (sym e))
     more (Some n) p e = refl
 
     by_test : (b : Bool) → overlaps (span_on s) period ≡ b → (if b then Some (shared (span_on s) period) else first_shared period ss) ≡ Some found
         → (first_shared period ss ≡ Some found → (covers period found.from ≡ true) × (is_some (value_at ss found.from) ≡ true))
         → (covers period found.from ≡ true) × (is_some (option_or (value_at ss found.from) (then_some (has s.from s.till found.from) s.stamp)) ≡ true)
     by_test true e h rest =
-        let from : max s.from period.from ≡ found.from = ap (λ (p : Span). p.from) (some_same (shared (span_on s) period) found h) in
+        let from : max s.from period.from ≡ found.from = ap (λ (p : Span). p.from) (same_Some (shared (span_on s) period) found h) in
         rw (
           sym from,
           in_first s.from s.till period.from period.till maximal.1 e,

@@ -1,5 +1,7 @@
 -- What is shown of rows, beside a listing of all of them.
 use Rattle.std.proofs.Common.{if◌then◌else◌, ◌≡◌, ℕ, Bool, true, false, List, [], ◌∷◌, Option, Some, None, refl, ap, ◌∙◌, sym}
+use Rattle.std.proofs.lemmas.Bool.{and_parts}
+use Rattle.std.proofs.lemmas.Option.{same_Some, none-some}
 use Rattle.std.specs.List.{filter_map, list_all}
 use Rattle.std.specs.Option.{option_map}
 use Rattle.wm_base.specs.Period.{Span, overlaps}
@@ -9,7 +11,6 @@ use Rattle.wm_graph.specs.Parts.{Parts}
 use Rattle.wm_spec.specs.Stretches.{Stretch}
 use Rattle.wm_state.specs.Listing.{AreRowsOf, IsListing, IsShowing, joined, row_shown_with, seen_row, span_on, with_span}
 use Rattle.wm_state.proofs.Listing.{one_rows}
-use Rattle.wm_state.proofs.Tests.{both}
 
 -- ---- without valid time all rows are shown, as they are
 
@@ -38,22 +39,16 @@ pub record HasPeriod (within : Span) (s : Stretch) (o : Option Row) (shown : Row
   pub timed : shown ≡ with_span (span_on s) row
   pub overlapping : overlaps (span_on s) within ≡ true
 
-some_same : (a b : Row) → Some a ≡ Some b → a ≡ b
-some_same a b e = cc
-
-none_some : (a : Row) → (let nothing : Option Row = None in nothing) ≡ Some a → ⊥
-none_some a e = cc
-
 pub has_period : (within : Span) (s : Stretch) (o : Option Row) (shown : Row) → seen_row true within s o ≡ Some shown → HasPeriod within s o shown
 has_period within s o shown e = by_test (overlaps (span_on s) within) refl o refl e
   where
     by_test : (b : Bool) → overlaps (span_on s) within ≡ b → (r : Option Row) → o ≡ r → (let nothing : Option Row = None in if b then option_map (with_span (span_on s)) r else nothing) ≡ Some shown
         → HasPeriod within s o shown
-    by_test false e r is h = absurd (none_some shown h)
-    by_test true e None is h = absurd (none_some shown h)
-    by_test true e (Some row) is h = record { row = row; found = is; timed = sym (some_same (with_span (span_on s) row) shown h); overlapping = e }
+    by_test false e r is h = absurd (none-some shown h)
+    by_test true e None is h = absurd (none-some shown h)
+    by_test true e (Some row) is h = record { row = row; found = is; timed = sym (same_Some (with_span (span_on s) row) shown h); overlapping = e }
 
-shown_step : {X : Type 0} (P : Row → Bool) (f : X → Option Row) (a : X) (l : List X) → ((row : Row) → f a ≡ Some row → P row ≡ true) → list_all P (filter_map f l) ≡ true → list_all P (filter_map f (a ∷ l)) ≡ true
+pub shown_step : {X : Type 0} (P : Row → Bool) (f : X → Option Row) (a : X) (l : List X) → ((row : Row) → f a ≡ Some row → P row ≡ true) → list_all P (filter_map f l) ≡ true → list_all P (filter_map f (a ∷ l)) ≡ true
 shown_step P f a l first rest = by_some (f a) refl
   where
     by_some : (o : Option Row) → f a ≡ o → list_all P (filter_map f (a ∷ l)) ≡ true
@@ -64,13 +59,13 @@ listed_step : {X : Type 0} (P : Row → Bool) (f : X → Option Row) (a : X) (l 
 listed_step P f a l all = by_some (f a) refl
   where
     absent : (row : Row) → f a ≡ None → f a ≡ Some row → P row ≡ true
-    absent row none some = absurd (none_some row (sym none ∙ some))
+    absent row none some = absurd (none-some row (sym none ∙ some))
 
     by_some : (o : Option Row) → f a ≡ o → ((row : Row) → f a ≡ Some row → P row ≡ true) × (list_all P (filter_map f l) ≡ true)
     by_some None e = ((λ row is. absent row e is), rw e at all)
     by_some (Some row) e =
-        let h = both (P row) (list_all P (filter_map f l)) (rw e at all) in
-        ((λ other is. ap P (some_same other row (sym is ∙ e)) ∙ h.0), h.1)
+        let h = and_parts (P row) (list_all P (filter_map f l)) (rw e at all) in
+        ((λ other is. ap P (same_Some other row (sym is ∙ e)) ∙ h.0), h.1)
 
 pub all_shown : (P Q : Row → Bool) → ((row : Row) (period : Span) → P row ≡ true → Q (with_span period row) ≡ true) → (f : List Value × Stretch → Option Row) (within : Span) (places : List (List Value × Stretch))
     → list_all P (filter_map f places) ≡ true → list_all Q (filter_map (λ (place : List Value × Stretch). seen_row true within place.1 (f place)) places) ≡ true

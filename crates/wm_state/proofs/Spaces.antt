@@ -1,11 +1,14 @@
 -- What is looked up in the state and in the records that stand for it: a workspace by number and by name, and what comes next. The
 -- module SavedAs has the like for the savepoints of a workspace.
 use Rattle.std.proofs.Common.{◌≡◌, ℕ, ◌+◌, ◌<◌, ◌≤◌, ◌==◌, nat_lt, nat_le, max, true, ◌&&◌, List, [], ◌∷◌, length, Option, Some, None, is_some, refl, sym, ap, ◌∙◌, arith}
-use Rattle.std.proofs.lemmas.Bool.{eq-eqb, eqb-true}
+use Rattle.std.proofs.lemmas.Bool.{eq-eqb, eqb-true, and_from, and_parts, true≢false}
 use Rattle.std.proofs.lemmas.Slice.Eq.{bytes_eq-Decides}
+use Rattle.std.proofs.lemmas.Option.{same_Some}
+use Rattle.std.proofs.Math.Dec.{leb-zero}
 use Rattle.std.specs.List.{list_all, find}
 use Rattle.std.specs.Option.{option_map}
 use Rattle.std.specs.Str.{bytes_eq}
+use Rattle.wm_base.proofs.Plain.{nat_le-antisym, none_some}
 use Rattle.wm_graph.specs.Parts.{Parts, space_of}
 use Rattle.wm_graph.specs.Rules.{keep_rules, is_space, differ}
 use Rattle.wm_spec.specs.declared.record.counters.Counters.{Counters}
@@ -17,7 +20,7 @@ use Rattle.wm_state.proofs.Apart.{ruled, found-passes}
 use Rattle.wm_state.proofs.Greatest.{greatest_kept, greatest_in, greatest_same}
 use Rattle.wm_state.proofs.Makings.{greatest_making, made_before, greatest_room}
 use Rattle.wm_state.proofs.Mapped.{find-passes, find-again, find-else, found-fails, none-found, all-found}
-use Rattle.wm_state.proofs.Tests.{bool_apart, both, and_true, all_if}
+use Rattle.wm_state.proofs.Tests.{all_if}
 
 -- ---- what the rules say
 
@@ -30,10 +33,10 @@ pub record RuledSpaces (rs : List Space) : Type 0 where
 
 pub ruled_spaces : (p : Parts) → keep_rules p ≡ true → RuledSpaces p.spaces
 ruled_spaces p rules =
-    let h = both (nat_le (length p.spaces) 1024 && is_some (space_of p.spaces 0)) _ (ruled p rules).spaces in
-    let f = both (nat_le (length p.spaces) 1024) (is_some (space_of p.spaces 0)) h.0 in
-    let g = both (differ (λ (r q : Space). r.number == q.number) p.spaces) _ h.1 in
-    let k = both (differ (λ (r q : Space). bytes_eq r.name q.name) p.spaces) (list_all (is_space (space_of p.spaces)) p.spaces) g.1 in
+    let h = and_parts (nat_le (length p.spaces) 1024 && is_some (space_of p.spaces 0)) _ (ruled p rules).spaces in
+    let f = and_parts (nat_le (length p.spaces) 1024) (is_some (space_of p.spaces 0)) h.0 in
+    let g = and_parts (differ (λ (r q : Space). r.number == q.number) p.spaces) _ h.1 in
+    let k = and_parts (differ (λ (r q : Space). bytes_eq r.name q.name) p.spaces) (list_all (is_space (space_of p.spaces)) p.spaces) g.1 in
     record { few = f.0; live = f.1; numbers = g.0; names = k.0; each = k.1 }
 
 -- ---- by number
@@ -54,21 +57,11 @@ pub record RecordIs (p : Parts) (s : Durable) (n : ℕ) (w : Workspace) : Type 0
   pub recorded : Space
   pub is : IsSpace p s n recorded w
 
-some_fields : (f g : SpaceFields) → Some f ≡ Some g → f ≡ g
-some_fields f g h = cc
-
-none_some : (o : Option SpaceFields) (f : SpaceFields) → o ≡ None → o ≡ Some f → ⊥
-none_some o f none some = cc
-
-none_mapped : {A B : Type 0} (f : A → B) (o : Option A) → option_map f o ≡ None → o ≡ None
-none_mapped f None e = refl
-none_mapped f (Some x) e = cc
-
 is_space_of : (p : Parts) (s : Durable) (n : ℕ) (r : Space) (w : Workspace) → SpacesStand p s → space_of p.spaces n ≡ Some r → workspace_of s.spaces n ≡ Some w → IsSpace p s n r w
 is_space_of p s n r w st recorded found = record {
   found = found;
   recorded = recorded;
-  fields = some_fields (fields_of r) (fields_in w) (sym (ap (option_map fields_of) recorded) ∙ st.same n ∙ ap (option_map fields_in) found);
+  fields = same_Some (fields_of r) (fields_in w) (sym (ap (option_map fields_of) recorded) ∙ st.same n ∙ ap (option_map fields_in) found);
   number = eqb-true w.number n (find-passes (λ (v : Workspace). v.number == n) s.spaces w found);
   record_number = eqb-true r.number n (find-passes (λ (q : Space). q.number == n) p.spaces r recorded);
 }
@@ -102,10 +95,6 @@ space_is p s n r st recorded = space_there p s n r st.spaces recorded
 pub record_is : (p : Parts) (s : Durable) (n : ℕ) (w : Workspace) → Stands p s → workspace_of s.spaces n ≡ Some w → RecordIs p s n w
 record_is p s n w st found = record_there p s n w st.spaces found
 
--- there is no workspace where there is no record
-pub space_none : (p : Parts) (s : Durable) (n : ℕ) → Stands p s → space_of p.spaces n ≡ None → workspace_of s.spaces n ≡ None
-space_none p s n st none = none_mapped fields_in (workspace_of s.spaces n) (sym (st.spaces.same n) ∙ ap (option_map fields_of) none)
-
 -- ---- by name
 
 -- the record of a name is that of the workspace of the name
@@ -113,12 +102,6 @@ pub record NamedSpace (p : Parts) (s : Durable) (name : List ℕ) (r : Space) : 
   pub workspace : Workspace
   pub named : workspace_named name s.spaces ≡ Some workspace
   pub is : IsSpace p s r.number r workspace
-
-some_space : (r q : Space) → Some r ≡ Some q → r ≡ q
-some_space r q h = cc
-
-some_workspace : (v w : Workspace) → Some v ≡ Some w → v ≡ w
-some_workspace v w h = cc
 
 -- what a name finds, its number finds
 record_numbered : (p : Parts) (name : List ℕ) (r : Space) → keep_rules p ≡ true → find (λ (q : Space). bytes_eq name q.name) p.spaces ≡ Some r → space_of p.spaces r.number ≡ Some r
@@ -141,29 +124,26 @@ pub named_space : (p : Parts) (s : Durable) (name : List ℕ) (r : Space) → St
 named_space p s name r st recorded = by_name (space_is p s r.number r st (record_numbered p name r st.rules recorded)) (workspace_named name s.spaces) refl
   where
     by_name : SpaceIs p s r.number r → (o : Option Workspace) → workspace_named name s.spaces ≡ o → NamedSpace p s name r
-    by_name x None none = absurd (bool_apart (sym passes ∙ found-fails (λ (v : Workspace). v.number == r.number) (λ (v : Workspace). bytes_eq name v.name) s.spaces x.workspace x.is.found
+    by_name x None none = absurd (true≢false (sym passes ∙ found-fails (λ (v : Workspace). v.number == r.number) (λ (v : Workspace). bytes_eq name v.name) s.spaces x.workspace x.is.found
         (none-found (λ (v : Workspace). bytes_eq name v.name) s.spaces none)))
       where
         passes : bytes_eq name x.workspace.name ≡ true
         passes = ap (λ (f : SpaceFields). bytes_eq name f.name) (sym x.is.fields) ∙ find-passes (λ (q : Space). bytes_eq name q.name) p.spaces r recorded
     by_name x (Some v) named =
         let y = record_is p s v.number v st (workspace_numbered p s name v st named) in
-        let one : y.recorded ≡ r = some_space y.recorded r (sym (record_named p s name y.recorded v st named y.is) ∙ recorded) in
+        let one : y.recorded ≡ r = same_Some y.recorded r (sym (record_named p s name y.recorded v st named y.is) ∙ recorded) in
         let number : v.number ≡ r.number = sym y.is.record_number ∙ ap (λ (q : Space). q.number) one in
-        let same : v ≡ x.workspace = some_workspace v x.workspace (sym y.is.found ∙ ap (workspace_of s.spaces) number ∙ x.is.found) in
+        let same : v ≡ x.workspace = same_Some v x.workspace (sym y.is.found ∙ ap (workspace_of s.spaces) number ∙ x.is.found) in
         record { workspace = x.workspace; named = named ∙ ap Some same; is = x.is }
 
 pub named_no_space : (p : Parts) (s : Durable) (name : List ℕ) → Stands p s → find (λ (q : Space). bytes_eq name q.name) p.spaces ≡ None → workspace_named name s.spaces ≡ None
 named_no_space p s name st none = by_name (workspace_named name s.spaces) refl
   where
-    apart : (o : Option Space) (r : Space) → o ≡ None → o ≡ Some r → ⊥
-    apart o r e f = cc
-
     by_name : (o : Option Workspace) → workspace_named name s.spaces ≡ o → workspace_named name s.spaces ≡ None
     by_name None is = is
     by_name (Some w) named =
         let y = record_is p s w.number w st (workspace_numbered p s name w st named) in
-        absurd (apart (find (λ (q : Space). bytes_eq name q.name) p.spaces) y.recorded none (record_named p s name y.recorded w st named y.is))
+        absurd (none_some (find (λ (q : Space). bytes_eq name q.name) p.spaces) y.recorded none (record_named p s name y.recorded w st named y.is))
 
 -- ---- the number of the next workspace
 
@@ -176,36 +156,30 @@ next_right a b c lt = grind (arith, lt)
 next_both : (a b c : ℕ) → nat_lt a c ≡ true → nat_le b c ≡ true → nat_le (max (a + 1) b) c ≡ true
 next_both a b c lt le = grind (arith, lt, le)
 
-zero_under : (n : ℕ) → nat_le 0 n ≡ true
-zero_under n = grind arith
-
-one_number : (a b : ℕ) → nat_le a b ≡ true → nat_le b a ≡ true → a ≡ b
-one_number a b le also = grind (arith, le, also)
-
 -- each record has a smaller number
 pub numbers_under : (rs : List Space) → list_all (λ (r : Space). nat_lt r.number (space_after rs)) rs ≡ true
 numbers_under [] = refl
 numbers_under (r ∷ rs) =
-    and_true (nat_lt r.number (max (r.number + 1) (space_after rs))) _ (next_left r.number (space_after rs))
+    and_from (nat_lt r.number (max (r.number + 1) (space_after rs))) _ (next_left r.number (space_after rs))
     (all_if (λ (q : Space). nat_lt q.number (space_after rs)) (λ (q : Space). nat_lt q.number (max (r.number + 1) (space_after rs))) (λ q lt. next_right q.number (space_after rs) (r.number + 1) lt) rs (numbers_under rs))
 
 after_least : (rs : List Space) (n : ℕ) → list_all (λ (r : Space). nat_lt r.number n) rs ≡ true → nat_le (space_after rs) n ≡ true
-after_least [] n all = zero_under n
-after_least (r ∷ rs) n all = let h = both (nat_lt r.number n) (list_all (λ (q : Space). nat_lt q.number n) rs) all in next_both r.number (space_after rs) n h.0 (after_least rs n h.1)
+after_least [] n all = leb-zero n
+after_least (r ∷ rs) n all = let h = and_parts (nat_lt r.number n) (list_all (λ (q : Space). nat_lt q.number n) rs) all in next_both r.number (space_after rs) n h.0 (after_least rs n h.1)
 
 -- and so has each workspace
 workspaces_under : (ws : List Workspace) → list_all (λ (w : Workspace). nat_lt w.number (next_space ws)) ws ≡ true
 workspaces_under [] = refl
 workspaces_under (w ∷ ws) =
-    and_true (nat_lt w.number (max (w.number + 1) (next_space ws))) _ (next_left w.number (next_space ws))
+    and_from (nat_lt w.number (max (w.number + 1) (next_space ws))) _ (next_left w.number (next_space ws))
     (all_if (λ (v : Workspace). nat_lt v.number (next_space ws)) (λ (v : Workspace). nat_lt v.number (max (w.number + 1) (next_space ws))) (λ v lt. next_right v.number (next_space ws) (w.number + 1) lt) ws (workspaces_under ws))
 
 next_least : (ws : List Workspace) (n : ℕ) → list_all (λ (w : Workspace). nat_lt w.number n) ws ≡ true → nat_le (next_space ws) n ≡ true
-next_least [] n all = zero_under n
-next_least (w ∷ ws) n all = let h = both (nat_lt w.number n) (list_all (λ (v : Workspace). nat_lt v.number n) ws) all in next_both w.number (next_space ws) n h.0 (next_least ws n h.1)
+next_least [] n all = leb-zero n
+next_least (w ∷ ws) n all = let h = and_parts (nat_lt w.number n) (list_all (λ (v : Workspace). nat_lt v.number n) ws) all in next_both w.number (next_space ws) n h.0 (next_least ws n h.1)
 
 pub next_space_there : (p : Parts) (s : Durable) → keep_rules p ≡ true → SpacesStand p s → OnceStand p s → next_space s.spaces ≡ space_after p.spaces
-next_space_there p s rules st once = one_number (next_space s.spaces) (space_after p.spaces) below above
+next_space_there p s rules st once = nat_le-antisym (next_space s.spaces) (space_after p.spaces) below above
   where
     below : nat_le (next_space s.spaces) (space_after p.spaces) ≡ true
     below = next_least s.spaces (space_after p.spaces) (all-found (λ (w : Workspace). w.number) (λ (w : Workspace). nat_lt w.number (space_after p.spaces)) s.spaces once.numbers

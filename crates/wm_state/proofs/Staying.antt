@@ -3,6 +3,7 @@
 -- EntriesStand-kept, a workspace at a time; and for all of them one where the workspaces are those of before. Of records of entries Logging has the law.
 use Rattle.std.proofs.Common.{◌≡◌, ◌==◌, ℕ, ◌+◌, Bool, true, false, cond, List, [], length, take, Option, Some, None, refl, sym, ap, subst, ◌∙◌, ◌⊎◌, inl, ⊎_elim}
 use Rattle.std.proofs.lemmas.List.Elements.{All-nil}
+use Rattle.std.proofs.lemmas.Option.{same_Some, none-some}
 use Rattle.std.specs.List.{All, slice_get}
 use Rattle.std.specs.Option.{option_map}
 use Rattle.wm_graph.specs.Parts.{Parts}
@@ -27,15 +28,9 @@ pub record WasTold {A : Type 0} (f : Workspace → A) (was : List Workspace) (n 
 pub was_told : {A : Type 0} (f : Workspace → A) (was now : List Workspace) (n : ℕ) (w : Workspace) → option_map f (workspace_of now n) ≡ option_map f (workspace_of was n) → workspace_of now n ≡ Some w → WasTold f was n w
 was_told {A = A} f was now n w alike is = by_old (workspace_of was n) refl (ap (option_map f) (sym is) ∙ alike)
   where
-    some_none : (a : A) → Some a ≡ None → ⊥
-    some_none a e = cc
-
-    some_same : (a b : A) → Some a ≡ Some b → a ≡ b
-    some_same a b e = cc
-
     by_old : (o : Option Workspace) → workspace_of was n ≡ o → Some (f w) ≡ option_map f o → WasTold f was n w
-    by_old None found e = absurd (some_none (f w) e)
-    by_old (Some old) found e = record { old = old; is = found; same = some_same (f w) (f old) e }
+    by_old None found e = absurd (none-some (f w) (sym e))
+    by_old (Some old) found e = record { old = old; is = found; same = same_Some (f w) (f old) e }
 
 -- of each workspace is told what was told, where one was changed but for that
 pub part-changed : {A : Type 0} (f : Workspace → A) (n : ℕ) (act : Workspace → Workspace) → ((w : Workspace) → (act w).number ≡ w.number) → ((w : Workspace) → f (act w) ≡ f w) → (was now : List Workspace)

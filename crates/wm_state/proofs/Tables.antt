@@ -1,17 +1,19 @@
 -- The records with a table made.
 use Rattle.std.proofs.Common.{◌≡◌, ℕ, ◌+◌, ◌≤◌, ◌==◌, nat_lt, nat_le, Bool, true, false, ◌&&◌, ◌||◌, cond, List, [], ◌∷◌, ◌++◌, refl, sym, ap, ◌∙◌, length, length-append, arith}
+use Rattle.std.proofs.lemmas.Bool.{and_from, and_parts, le-leb}
 use Rattle.std.specs.List.{list_all, list_any}
 use Rattle.std.specs.Str.{bytes_eq}
+use Rattle.wm_base.proofs.Plain.{and_swap, nat_le-itself, nat_lt-apart, nat_lt-turned, or_swap}
 use Rattle.wm_graph.specs.Parts.{Parts}
 use Rattle.wm_graph.specs.Rules.{keep_rules, are_counters, are_tables, is_table, are_versions, differ}
 use Rattle.wm_spec.specs.declared.record.counters.Counters.{Counters}
 use Rattle.wm_spec.specs.declared.record.table.Table.{Table}
 use Rattle.wm_state.specs.State.{Durable}
 use Rattle.wm_state.specs.Standing.{by_number, place_table, CountersStand, TablesStand, FieldsStand, Stands}
-use Rattle.wm_state.proofs.Tests.{both, and_true, all_push, differ_push, none_if}
+use Rattle.wm_state.proofs.Tests.{all_push, differ_push, none_if}
 use Rattle.wm_state.proofs.Apart.{Ruled, ruled, keeps_all}
 use Rattle.wm_state.proofs.Standing.{FieldsStand-retabled, Stands-retabled}
-use Rattle.wm_state.proofs.Keeping.{le_of, le_itself, KeepTables-push, KeepSpaces-same, KeepVersions-same, KeepRows-same, are_savepoints-kept, are_rows-kept, are_pieces-kept, are_hists-kept, few-same}
+use Rattle.wm_state.proofs.Keeping.{KeepTables-push, KeepSpaces-same, KeepVersions-same, KeepRows-same, are_savepoints-kept, are_rows-kept, are_pieces-kept, are_hists-kept, few-same}
 use Rattle.wm_state.proofs.KeepingTurns.{are_locks-kept, are_marks-kept, are_touches-kept}
 use Rattle.wm_state.proofs.Ready.{KeepReady-push}
 
@@ -19,10 +21,7 @@ use Rattle.wm_state.proofs.Ready.{KeepReady-push}
 
 -- a table under one that is behind all others comes before it
 place-before : (y : Table) (us : List Table) (t : Table) → nat_lt y.number t.number ≡ true → place_table y (us ++ t ∷ []) ≡ place_table y us ++ t ∷ []
-place-before y [] t lt = rw (not_less y.number t.number lt) refl
-  where
-    not_less : (a b : ℕ) → nat_lt a b ≡ true → nat_lt b a ≡ false
-    not_less a b lt = grind (arith, lt)
+place-before y [] t lt = rw (nat_lt-turned y.number t.number lt) refl
 place-before y (u ∷ us) t lt = by_test (nat_lt u.number y.number) (place-before y us t lt)
   where
     by_test : (b : Bool) → place_table y (us ++ t ∷ []) ≡ place_table y us ++ t ∷ []
@@ -34,7 +33,7 @@ place-before y (u ∷ us) t lt = by_test (nat_lt u.number y.number) (place-befor
 by_number-push : (ts : List Table) (t : Table) → list_all (λ (u : Table). nat_lt u.number t.number) ts ≡ true → by_number (ts ++ t ∷ []) ≡ by_number ts ++ t ∷ []
 by_number-push [] t above = refl
 by_number-push (y ∷ ts) t above =
-    let h = both (nat_lt y.number t.number) (list_all (λ (u : Table). nat_lt u.number t.number) ts) above in
+    let h = and_parts (nat_lt y.number t.number) (list_all (λ (u : Table). nat_lt u.number t.number) ts) above in
     ap (place_table y) (by_number-push ts t h.1) ∙ place-before y (by_number ts) t h.0
 
 -- what is asked of all tables, of any, and how many they are does not turn on their order
@@ -42,30 +41,20 @@ all-place : (P : Table → Bool) (t : Table) (ts : List Table) → list_all P (p
 all-place P t [] = refl
 all-place P t (u ∷ us) = by_test (nat_lt u.number t.number) (all-place P t us)
   where
-    swap : (a b c : Bool) → (a && (b && c)) ≡ (b && (a && c))
-    swap true b c = refl
-    swap false true c = refl
-    swap false false c = refl
-
     by_test : (b : Bool) → list_all P (place_table t us) ≡ (P t && list_all P us) → list_all P (cond b (u ∷ place_table t us) (t ∷ u ∷ us)) ≡ (P t && (P u && list_all P us))
-    by_test true rest = ap (λ x. P u && x) rest ∙ swap (P u) (P t) (list_all P us)
+    by_test true rest = ap (λ x. P u && x) rest ∙ and_swap (P u) (P t) (list_all P us)
     by_test false rest = refl
 
 pub by_number-all : (P : Table → Bool) (ts : List Table) → list_all P (by_number ts) ≡ list_all P ts
 by_number-all P [] = refl
 by_number-all P (t ∷ ts) = all-place P t (by_number ts) ∙ ap (λ x. P t && x) (by_number-all P ts)
 
-any-place : (P : Table → Bool) (t : Table) (ts : List Table) → list_any P (place_table t ts) ≡ (P t || list_any P ts)
+pub any-place : (P : Table → Bool) (t : Table) (ts : List Table) → list_any P (place_table t ts) ≡ (P t || list_any P ts)
 any-place P t [] = refl
 any-place P t (u ∷ us) = by_test (nat_lt u.number t.number) (any-place P t us)
   where
-    swap : (a b c : Bool) → (a || (b || c)) ≡ (b || (a || c))
-    swap true true c = refl
-    swap true false c = refl
-    swap false b c = refl
-
     by_test : (b : Bool) → list_any P (place_table t us) ≡ (P t || list_any P us) → list_any P (cond b (u ∷ place_table t us) (t ∷ u ∷ us)) ≡ (P t || (P u || list_any P us))
-    by_test true rest = ap (λ x. P u || x) rest ∙ swap (P u) (P t) (list_any P us)
+    by_test true rest = ap (λ x. P u || x) rest ∙ or_swap (P u) (P t) (list_any P us)
     by_test false rest = refl
 
 pub by_number-any : (P : Table → Bool) (ts : List Table) → list_any P (by_number ts) ≡ list_any P ts
@@ -104,19 +93,16 @@ pub record MayCreate (p : Parts) (old new : Counters) (t : Table) : Type 0 where
 tables_more : (ts : List Table) (t : Table) → is_table t ≡ true → nat_lt (length ts) 256 ≡ true → list_all (λ (u : Table). nat_lt u.number t.number) ts ≡ true
     → list_any (λ (u : Table). bytes_eq u.name t.name) ts ≡ false → are_tables ts ≡ true → are_tables (ts ++ t ∷ []) ≡ true
 tables_more ts t is room above name e =
-    let h = both (nat_le (length ts) 256) (differ (λ (t u : Table). t.number == u.number) ts && (differ (λ (t u : Table). bytes_eq t.name u.name) ts && list_all is_table ts)) e in
-    let g = both (differ (λ (t u : Table). t.number == u.number) ts) (differ (λ (t u : Table). bytes_eq t.name u.name) ts && list_all is_table ts) h.1 in
-    let k = both (differ (λ (t u : Table). bytes_eq t.name u.name) ts) (list_all is_table ts) g.1 in
-    and_true (nat_le (length (ts ++ t ∷ [])) 256) _ (ap (λ n. nat_le n 256) (length-append ts (t ∷ [])) ∙ fits (length ts) room)
-    (and_true (differ (λ (t u : Table). t.number == u.number) (ts ++ t ∷ [])) _
-    (differ_push (λ (t u : Table). t.number == u.number) ts t g.0 (none_if (λ (u : Table). nat_lt u.number t.number) (λ (u : Table). u.number == t.number) (λ u lt. apart u.number t.number lt) ts above))
-    (and_true (differ (λ (t u : Table). bytes_eq t.name u.name) (ts ++ t ∷ [])) (list_all is_table (ts ++ t ∷ []))
+    let h = and_parts (nat_le (length ts) 256) (differ (λ (t u : Table). t.number == u.number) ts && (differ (λ (t u : Table). bytes_eq t.name u.name) ts && list_all is_table ts)) e in
+    let g = and_parts (differ (λ (t u : Table). t.number == u.number) ts) (differ (λ (t u : Table). bytes_eq t.name u.name) ts && list_all is_table ts) h.1 in
+    let k = and_parts (differ (λ (t u : Table). bytes_eq t.name u.name) ts) (list_all is_table ts) g.1 in
+    and_from (nat_le (length (ts ++ t ∷ [])) 256) _ (ap (λ n. nat_le n 256) (length-append ts (t ∷ [])) ∙ fits (length ts) room)
+    (and_from (differ (λ (t u : Table). t.number == u.number) (ts ++ t ∷ [])) _
+    (differ_push (λ (t u : Table). t.number == u.number) ts t g.0 (none_if (λ (u : Table). nat_lt u.number t.number) (λ (u : Table). u.number == t.number) (λ u lt. nat_lt-apart u.number t.number lt) ts above))
+    (and_from (differ (λ (t u : Table). bytes_eq t.name u.name) (ts ++ t ∷ [])) (list_all is_table (ts ++ t ∷ []))
     (differ_push (λ (t u : Table). bytes_eq t.name u.name) ts t k.0 name)
     (all_push is_table ts t k.1 is)))
   where
-    apart : (m n : ℕ) → nat_lt m n ≡ true → (m == n) ≡ false
-    apart m n lt = grind (arith, lt)
-
     fits : (n : ℕ) → nat_lt n 256 ≡ true → nat_le (n + 1) 256 ≡ true
     fits n lt = grind (arith, lt)
 
@@ -147,10 +133,10 @@ keep-created p old new t may rules = keeps_all q new refl may.counters
         first_same b d h = cc
 
     work : nat_le r.counters.work new.work ≡ true
-    work = ap (λ (c : Counters). nat_le c.work new.work) (sym same) ∙ le_of old.work new.work may.work
+    work = ap (λ (c : Counters). nat_le c.work new.work) (sym same) ∙ le-leb old.work new.work may.work
 
     stamps : nat_le r.counters.next_stamp new.next_stamp ≡ true
-    stamps = ap (λ (c : Counters). nat_le c.next_stamp new.next_stamp) (sym same) ∙ ap (nat_le old.next_stamp) may.stamps ∙ le_itself old.next_stamp
+    stamps = ap (λ (c : Counters). nat_le c.next_stamp new.next_stamp) (sym same) ∙ ap (nat_le old.next_stamp) may.stamps ∙ nat_le-itself old.next_stamp
 
 -- the records agree with the state with the table
 tables_created : (p : Parts) (old new : Counters) (t : Table) (s u : Durable) → TablesStand p s → MayCreate p old new t → u.tables ≡ s.tables ++ t ∷ [] → TablesStand (created p new t) u

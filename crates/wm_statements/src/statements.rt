@@ -8,8 +8,7 @@ ghost use Rattle.wm_grammar.specs.OperandReaders.{plain_name_at, name_at};
 ghost use Rattle.wm_grammar.specs.ExpressionReaders.{expr_at};
 ghost use Rattle.wm_grammar.specs.QueryReaders.{next_at, list_of_at};
 ghost use Rattle.wm_grammar.specs.Statements.{also, is_key, keyed_by};
-ghost use Rattle.wm_grammar.specs.StatementReaders.{no_scale_at, size_at, precision_at, column_type_at, column_option_at, option_sorts, column_options_at, column_item_at, key_columns_at, create_item_at, next_item_at, create_items_at, create_at, name_list_at, insert_at, set_at, update_at, delete_at};
-ghost use Rattle.wm_statements.specs.Parts.{primary_key_at, never_null_at, key_list_at, row_at, row_of_at};
+ghost use Rattle.wm_grammar.specs.StatementReaders.{no_scale_at, size_at, precision_at, column_type_at, primary_key_at, never_null_at, column_option_at, option_sorts, column_options_at, column_item_at, key_list_at, key_columns_at, create_item_at, next_item_at, create_items_at, create_at, name_list_at, row_at, named_row_at, insert_at, set_at, update_at, delete_at};
 ghost use Rattle.wm_terms.specs.Telling.{Told};
 
 use std::alloc::Global;
@@ -336,7 +335,7 @@ fn named_columns(cursor: &mut Cursor, alloc: Global) -> Result<Option<Names>, Pa
 
 /// The values of a row, for the statement that is made of them.
 fn row(cursor: &mut Cursor, alloc: Global) -> Result<Exprs, ParseError>
-    ensures { (make : List ExprTree → StatementTree) → Told (λ v. make (exprs_view v.items)) result cursor.new (row_at make cursor.old) }
+    ensures { (make : List ExprTree → StatementTree) → Told (λ v. make (exprs_view v.items)) result cursor.new (row_at 64 make cursor.old) }
 {
     cursor.mark(Sort::Values)?;
     cursor.mark(Sort::Open)?;
@@ -352,7 +351,7 @@ fn row(cursor: &mut Cursor, alloc: Global) -> Result<Exprs, ParseError>
 
 /// What stands behind the table of an INSERT. One function for all of it is long to prove.
 fn row_of(cursor: &mut Cursor, alloc: Global, table: Name) -> Result<Statement, ParseError>
-    ensures { Told statement_view result cursor.new (row_of_at table cursor.old) }
+    ensures { Told statement_view result cursor.new (named_row_at 64 table cursor.old) }
 {
     let names = named_columns(cursor, alloc)?;
     let values = row(cursor, alloc)?;

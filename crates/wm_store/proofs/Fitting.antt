@@ -1,9 +1,10 @@
 -- Records whose spellings fit one page.
-use Rattle.std.proofs.Common.{◌≡◌, ℕ, ◌+◌, ◌*◌, ◌^◌, ◌<◌, ◌≤◌, ◌&&◌, nat_lt, Bool, true, false, List, [], ◌∷◌, length, refl, sym, ap, subst, ◌∙◌, arith}
+use Rattle.std.proofs.Common.{◌≡◌, ℕ, ◌+◌, ◌*◌, ◌^◌, ◌<◌, ◌≤◌, nat_lt, Bool, true, false, List, [], ◌∷◌, length, refl, sym, ap, subst, ◌∙◌, arith}
 use Rattle.std.specs.List.{flat_map, list_all, sum_by, AllByRecursion}
 use Rattle.std.proofs.lemmas.List.{length-append}
 use Rattle.std.proofs.lemmas.List.Concat.{flat_map-cons}
 use Rattle.std.proofs.lemmas.List.Sums.{sum_by-cons}
+use Rattle.std.proofs.lemmas.Bool.{and_parts, false≢true}
 use Rattle.wm_base.specs.Value.{weight_of}
 use Rattle.wm_base.specs.declared.value.Value.{Value}
 use Rattle.wm_base.specs.declared.value.Value.TheVariants.{Null, Num, Text, Time, Span}
@@ -107,9 +108,6 @@ is_spelled (Text t) = nat_lt 0 (length t)
 is_spelled (Span p) = false
 is_spelled v = true
 
-false_true : false ≡ true → ⊥
-false_true e = cc
-
 -- it has a spelling, where it is not too heavy
 can_value : (v : Value) → is_spelled v ≡ true → weight_of v ≤ 2000 → CanSpellValue v
 can_value Null e light = tt
@@ -119,7 +117,7 @@ can_value (Text t) e light = (some (length t) e, omega (arith, light))
     some : (n : ℕ) → nat_lt 0 n ≡ true → 0 < n
     some n e = grind (arith, e)
 can_value (Time i) e light = tt
-can_value (Span p) e light = absurd (false_true e)
+can_value (Span p) e light = absurd (false≢true e)
 
 -- which is no longer than it weighs
 length-value : (v : Value) → length (spell_value v) ≤ weight_of v
@@ -133,13 +131,9 @@ length-value (Span p) = omega arith
 can_values : (vs : List Value) → list_all is_spelled vs ≡ true → sum_by weight_of vs ≤ 2000 → AllByRecursion CanSpellValue vs
 can_values [] e light = tt
 can_values (v ∷ vs) e light =
-    let h = both (is_spelled v) (list_all is_spelled vs) e in
+    let h = and_parts (is_spelled v) (list_all is_spelled vs) e in
     let one = sum_by-cons weight_of v vs in
     (can_value v h.0 (omega (arith, light, one)), can_values vs h.1 (omega (arith, light, one)))
-  where
-    both : (a b : Bool) → (a && b) ≡ true → (a ≡ true) × (b ≡ true)
-    both true b e = (refl, e)
-    both false b e = absurd (false_true e)
 
 length-values : (vs : List Value) → length (flat_map spell_value vs) ≤ sum_by weight_of vs
 length-values [] = omega arith

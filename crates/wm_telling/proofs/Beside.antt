@@ -1,6 +1,6 @@
 -- What records tell of a workspace beside its parent is what their lists tell, cell by cell.
-use Rattle.std.proofs.Common.{◌≡◌, ℕ, ◌==◌, nat_le, nat_lt, Bool, true, false, if◌then◌else◌, List, ◌++◌, drop, Option, Some, None, is_some, is_none, refl, sym, ap, ◌∙◌}
-use Rattle.std.proofs.lemmas.Bool.{eqb-true}
+use Rattle.std.proofs.Common.{◌≡◌, ℕ, nat_le, nat_lt, Bool, true, false, if◌then◌else◌, List, ◌++◌, drop, Option, Some, None, is_some, is_none, refl, sym, ap, ◌∙◌}
+use Rattle.std.proofs.lemmas.Option.{same_Some}
 use Rattle.std.specs.Option.{option_map, option_or}
 use Rattle.wm_base.specs.declared.row.Row.{Row}
 use Rattle.wm_base.specs.declared.value.Value.{Value}
@@ -16,13 +16,10 @@ use Rattle.wm_spec.specs.declared.record.space.Space.{Space}
 use Rattle.wm_state.specs.Editing.{row_value}
 use Rattle.wm_state.specs.Standing.{Newest, SpaceFields, Stands, fields_in, fields_of, held_of, latest, owned, reached, seen}
 use Rattle.wm_state.specs.State.{Durable, Workspace, content, workspace_of}
-use Rattle.wm_state.proofs.Mapped.{find-passes}
 use Rattle.wm_state.proofs.Owning.{own_is}
+use Rattle.wm_state.proofs.Named.{space_number}
 use Rattle.wm_telling.specs.Telling.{AreFamily, gained_held, is_pending, is_unsettled, own_held, pending_held, told_by}
 use Rattle.wm_telling.proofs.Marking.{marks_reached}
-
-pub some_same : {A : Type 0} (x y : A) → Some x ≡ Some y → x ≡ y
-some_same x y e = cc
 
 -- ---- what is told by what is held
 
@@ -52,17 +49,14 @@ told_again p (Some t) has = ap (λ (x : Told). Some x) (told_same p t (has t ref
 -- ---- fields of records
 
 pub fields_are : (p : Parts) (d : Durable) (n : ℕ) (a : Space) (w : Workspace) → Stands p d → workspace_of d.spaces n ≡ Some w → space_of p.spaces n ≡ Some a → fields_of a ≡ fields_in w
-fields_are p d n a w st is recorded = some_same (fields_of a) (fields_in w) (sym (ap (option_map fields_of) recorded) ∙ st.spaces.same n ∙ ap (option_map fields_in) is)
-
-pub number_of : (p : Parts) (n : ℕ) (a : Space) → space_of p.spaces n ≡ Some a → a.number ≡ n
-number_of p n a recorded = eqb-true a.number n (find-passes (λ (s : Space). s.number == n) p.spaces a recorded)
+fields_are p d n a w st is recorded = same_Some (fields_of a) (fields_in w) (sym (ap (option_map fields_of) recorded) ∙ st.spaces.same n ∙ ap (option_map fields_in) is)
 
 -- ---- what is own
 
 pub own_is_held : (p : Parts) (d : Durable) (n : ℕ) (w : Workspace) (a : Space) → Stands p d → workspace_of d.spaces n ≡ Some w → space_of p.spaces n ≡ Some a → (c : Cell)
     → own_held p a c ≡ option_map held_of (told w.lists.own c)
 own_is_held p d n w a st is recorded c =
-    ap (λ (m : ℕ). owned p a.base_version m c) (number_of p n a recorded) ∙ own_is p d st.named st.owns n w a is recorded c
+    ap (λ (m : ℕ). owned p a.base_version m c) (space_number p n a recorded) ∙ own_is p d st.named st.owns n w a is recorded c
 
 -- what records tell of a workspace's own is what its own changes tell
 pub own_tells : (p : Parts) (d : Durable) (n : ℕ) (w : Workspace) (a : Space) → Stands p d → workspace_of d.spaces n ≡ Some w → space_of p.spaces n ≡ Some a → (c : Cell)
@@ -95,7 +89,7 @@ module _ (p : Parts) (d : Durable) (n : ℕ) (w q : Workspace) (a b : Space) (be
   parent_recorded = ap (λ (f : SpaceFields). space_of p.spaces f.parent) (sym child_fields) ∙ beside.family.parent
 
   pub parent_number : b.number ≡ w.parent
-  parent_number = number_of p w.parent b parent_recorded
+  parent_number = space_number p w.parent b parent_recorded
 
   parent_fields : fields_of b ≡ fields_in q
   parent_fields = fields_are p d w.parent b q beside.stands beside.above parent_recorded

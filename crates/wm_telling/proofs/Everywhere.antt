@@ -1,7 +1,8 @@
 -- What each entry of a list has of its table, key and row, each of its net list has, and of what is gained of it.
 use Rattle.std.proofs.Common.{◌≡◌, ℕ, ◌==◌, ◌&&◌, Bool, true, false, if◌then◌else◌, List, [], ◌∷◌, ◌++◌, map, Option, Some, None, refl, ap, ◌∙◌, subst}
-use Rattle.std.proofs.lemmas.Bool.{eqb-true}
+use Rattle.std.proofs.lemmas.Bool.{eqb-true, and_parts}
 use Rattle.std.proofs.lemmas.List.Elements.{All-append, All-from_recursion, All-head, All-map, All-nil, All-tail}
+use Rattle.std.proofs.lemmas.Option.{same_Some}
 use Rattle.std.specs.Bool.{then_some}
 use Rattle.std.specs.List.{All, AllByRecursion}
 use Rattle.std.specs.Option.{option_or}
@@ -12,12 +13,10 @@ use Rattle.wm_base.specs.declared.value.Value.{Value}
 use Rattle.wm_net.specs.Groups.{Group, cell, groups}
 use Rattle.wm_net.specs.Listed.{Stretch, joined, listed, onto, stretches, stretches_of}
 use Rattle.wm_net.specs.Nets.{gained, gained_at, net, one_stamp, replayed}
+use Rattle.wm_net.proofs.Netting.{outside_given}
 use Rattle.wm_spec.specs.Lists.{Cell, Entry, Told, covers, has_time, is_of, told, told_of}
 use Rattle.wm_spec.specs.Stretches.{cuts}
 use Rattle.wm_state.proofs.Laying.{key_same}
-use Rattle.wm_state.proofs.Tests.{both}
-use Rattle.wm_telling.proofs.Beside.{some_same}
-use Rattle.wm_telling.proofs.Relisting.{given_pending}
 
 -- ---- what a stretch holds is given somewhere
 
@@ -59,13 +58,13 @@ module _ (P : ℕ → List Value → Option Row → Type 0) where
     where
       own : covers x c ≡ true → told_of x ≡ t → P c.table c.key t.row
       own is same =
-          let at = both (x.table == c.table) (is_eq (key_order x.key c.key)) (both (is_of c.table c.key x) (has_time c.time x) is).0 in
+          let at = and_parts (x.table == c.table) (is_eq (key_order x.key c.key)) (and_parts (is_of c.table c.key x) (has_time c.time x) is).0 in
           subst (λ (r : Option Row). P c.table c.key r) (ap (λ (s : Told). s.row) same)
           (subst (λ (k : List Value). P c.table k x.row) (key_same x.key c.key at.1) (subst (λ (n : ℕ). P n x.key x.row) (eqb-true x.table c.table at.0) (All-head (EntryHas P) x xs all)))
 
       by_told : (o : Option Told) (b : Bool) → told xs c ≡ o → (told xs c ≡ Some t → P c.table c.key t.row) → covers x c ≡ b → option_or o (then_some b (told_of x)) ≡ Some t → P c.table c.key t.row
       by_told (Some s) b at rest is h = rest (at ∙ h)
-      by_told None true at rest is h = own is (some_same (told_of x) t h)
+      by_told None true at rest is h = own is (same_Some (told_of x) t h)
       by_told None false at rest is h = absurd (cc)
 
   listing_has : (moment : ℕ) (user : List ℕ) (es : List Entry) (f : Cell → Option Told) → ((c : Cell) (t : Told) → f c ≡ Some t → P c.table c.key t.row)
@@ -82,4 +81,4 @@ module _ (P : ℕ → List Value → Option Row → Type 0) where
   -- and each of what is gained what each of what is pending has
   pub gained_all : (moment : ℕ) (user : List ℕ) (own pending : List Entry) → All (EntryHas P) pending → All (EntryHas P) (gained moment user own pending)
   gained_all moment user own pending all =
-      listing_has moment user (own ++ pending) (gained_at own pending) (λ c t e. told_has pending c t all (given_pending (told own c) (told pending c) t e))
+      listing_has moment user (own ++ pending) (gained_at own pending) (λ c t e. told_has pending c t all (outside_given (told own c) (told pending c) t e))

@@ -1,6 +1,6 @@
 -- What the records of marks tell is what is settled: of a cell, and whether some mark is at a position or a place.
 use Rattle.std.proofs.Common.{◌≡◌, ℕ, ◌+◌, ◌<◌, ◌≤◌, ◌==◌, max, nat_le, nat_lt, Bool, true, false, ◌&&◌, ◌||◌, cond, if◌then◌else◌, List, [], ◌∷◌, Option, Some, refl, sym, ap, ◌∙◌, arith, ⊎_elim, ◌⊎◌, inl, inr}
-use Rattle.std.proofs.lemmas.Bool.{eq-eqb, eqb-true, leb-true, ltb-true}
+use Rattle.std.proofs.lemmas.Bool.{eq-eqb, eqb-true, leb-true, ltb-true, and_parts, or_right}
 use Rattle.std.proofs.lemmas.List.Elements.{All-cons, All-head, All-nil, All-tail}
 use Rattle.std.specs.List.{All, list_all, list_any}
 use Rattle.std.specs.Option.{option_map_or}
@@ -15,7 +15,7 @@ use Rattle.wm_state.specs.Standing.{IsRealMark, MarksStand, in_cells, marked_at,
 use Rattle.wm_state.specs.State.{Durable, Workspace, workspace_of}
 use Rattle.wm_state.proofs.Apart.{ruled}
 use Rattle.wm_state.proofs.Laying.{key_itself}
-use Rattle.wm_state.proofs.Tests.{all_if, both}
+use Rattle.wm_state.proofs.Tests.{all_if}
 
 -- ---- what is settled, place by place
 
@@ -61,16 +61,12 @@ settled_same ms ns c same =
 abbrev Rises : (ℕ → ℕ → Bool) → Type 0
 Rises test = (place k j : ℕ) → k ≤ j → test place k ≡ true → test place j ≡ true
 
-or_true : (a b : Bool) → b ≡ true → (a || b) ≡ true
-or_true true b e = refl
-or_true false b e = e
-
 -- what passes at a place below what is settled there passes for some mark
 any_settled : (test : ℕ → ℕ → Bool) → Rises test → (ms : List Settled) (place k : ℕ) (c : Cell) → k < settled_from ms place c → test place k ≡ true → list_any (λ (m : Settled). test m.place m.position) ms ≡ true
 any_settled test rises [] place k c lt e = absurd (let no : k < 0 = lt in omega (arith, no))
 any_settled test rises (m ∷ ms) place k c lt e =
     by_test ((m.place == place) && covers (as_entry m) c) refl lt
-    (λ less. or_true (test m.place m.position) (list_any (λ (x : Settled). test x.place x.position) ms) (any_settled test rises ms place k c less e))
+    (λ less. or_right (test m.place m.position) (list_any (λ (x : Settled). test x.place x.position) ms) (any_settled test rises ms place k c less e))
   where
     two : (a b : ℕ) → k < max (a + 1) b → (k ≤ a) ⊎ (k < b)
     two a b less = by_order (nat_le k a) refl
@@ -84,7 +80,7 @@ any_settled test rises (m ∷ ms) place k c lt e =
         → (test m.place m.position || list_any (λ (x : Settled). test x.place x.position) ms) ≡ true
     by_test true is less rest =
         ⊎_elim
-        (λ le. rw (rises m.place k m.position le (ap (λ p. test p k) (eqb-true m.place place (both (m.place == place) (covers (as_entry m) c) is).0) ∙ e)) refl)
+        (λ le. rw (rises m.place k m.position le (ap (λ p. test p k) (eqb-true m.place place (and_parts (m.place == place) (covers (as_entry m) c) is).0) ∙ e)) refl)
         rest
         (two m.position (settled_from ms place c) less)
     by_test false is less rest = rest (omega (arith, less))
@@ -151,7 +147,7 @@ is_below n below x = if x.space == n then nat_lt x.place below else true
 reached_settled : (n below : ℕ) (c : Cell) (xs : List Trace) → list_all (is_below n below) xs ≡ true → reached xs n below c ≡ settled_at (settled_of n xs) c
 reached_settled n below c [] given = refl
 reached_settled n below c (x ∷ xs) given =
-    let two = both (is_below n below x) (list_all (is_below n below) xs) given in by_test (x.space == n) two.0 (reached_settled n below c xs two.1)
+    let two = and_parts (is_below n below x) (list_all (is_below n below) xs) given in by_test (x.space == n) two.0 (reached_settled n below c xs two.1)
   where
     by_test : (b : Bool) → (if b then nat_lt x.place below else true) ≡ true → reached xs n below c ≡ settled_at (settled_of n xs) c
         → max (if (b && nat_lt x.place below) && in_cells x.cells c then x.position + 1 else 0) (reached xs n below c)
@@ -175,11 +171,11 @@ is_over x = nat_lt x.cells.from x.cells.till && nat_le x.cells.till END
 
 settled_real : (n : ℕ) (xs : List Trace) → list_all is_over xs ≡ true → All IsRealMark (settled_of n xs)
 settled_real n [] over = All-nil IsRealMark
-settled_real n (x ∷ xs) over = let two = both (is_over x) (list_all is_over xs) over in by_test (x.space == n) two.0 (settled_real n xs two.1)
+settled_real n (x ∷ xs) over = let two = and_parts (is_over x) (list_all is_over xs) over in by_test (x.space == n) two.0 (settled_real n xs two.1)
   where
     by_test : (b : Bool) → is_over x ≡ true → All IsRealMark (settled_of n xs) → All IsRealMark (cond b (settled_as x ∷ settled_of n xs) (settled_of n xs))
     by_test true is rest =
-        let two = both (nat_lt x.cells.from x.cells.till) (nat_le x.cells.till END) is in
+        let two = and_parts (nat_lt x.cells.from x.cells.till) (nat_le x.cells.till END) is in
         All-cons IsRealMark (settled_as x) (settled_of n xs) (record { some = ltb-true x.cells.from x.cells.till two.0; till = leb-true x.cells.till END two.1 }) rest
     by_test false is rest = rest
 
@@ -187,15 +183,15 @@ settled_real n (x ∷ xs) over = let two = both (is_over x) (list_all is_over xs
 
 module _ (p : Parts) (d : Durable) (n : ℕ) (w : Workspace) (stand : MarksStand p d) (rules : keep_rules p ≡ true) (is : workspace_of d.spaces n ≡ Some w) where
   each_mark : list_all (is_trace (table_of p.tables) (space_of p.spaces)) p.marks ≡ true
-  each_mark = (both (differ meet p.marks) (list_all (is_trace (table_of p.tables) (space_of p.spaces)) p.marks) (ruled p rules).marks).1
+  each_mark = (and_parts (differ meet p.marks) (list_all (is_trace (table_of p.tables) (space_of p.spaces)) p.marks) (ruled p rules).marks).1
 
   settled_by_records : (place : ℕ) (c : Cell) → settled_from (settled_of n p.marks) place c ≡ settled_from w.settled place c
   settled_by_records place c = sym (marked_settled n place c p.marks) ∙ stand.same n w place c is
 
   marks_over : list_all is_over p.marks ≡ true
   marks_over = all_if (is_trace (table_of p.tables) (space_of p.spaces)) is_over
-      (λ x e. (both (is_over x) (option_map_or (is_key_of x.cells.key) (table_of p.tables x.cells.table) false)
-      (both (are_cells (table_of p.tables) x.cells) (is_given (space_of p.spaces) x.space x.place) e).0).0) p.marks each_mark
+      (λ x e. (and_parts (is_over x) (option_map_or (is_key_of x.cells.key) (table_of p.tables x.cells.table) false)
+      (and_parts (are_cells (table_of p.tables) x.cells) (is_given (space_of p.spaces) x.space x.place) e).0).0) p.marks each_mark
 
   any_marked : (test : ℕ → ℕ → Bool) → Rises test
       → list_any (λ (x : Trace). (x.space == n) && test x.place x.position) p.marks ≡ list_any (λ (m : Settled). test m.place m.position) w.settled
@@ -223,5 +219,5 @@ module _ (p : Parts) (d : Durable) (n : ℕ) (w : Workspace) (stand : MarksStand
           by_test true same =
               ap (λ k. nat_lt x.place k) (sym places)
               ∙ ap (λ (o : Option Space). option_map_or (λ (s : Space). nat_lt x.place s.next_place) o false) (sym (ap (λ m. space_of p.spaces m) (eqb-true x.space n same) ∙ recorded))
-              ∙ (both (are_cells (table_of p.tables) x.cells) (is_given (space_of p.spaces) x.space x.place) e).1
+              ∙ (and_parts (are_cells (table_of p.tables) x.cells) (is_given (space_of p.spaces) x.space x.place) e).1
           by_test false same = refl

@@ -2,6 +2,8 @@
 use Rattle.std.proofs.Common.{◌≡◌, ℕ, ◌==◌, ◌&&◌, nat_le, nat_lt, Bool, true, false, not, if◌then◌else◌, List, [], ◌∷◌, drop, Option, Some, None, refl, sym, ap, ◌∙◌, eqb-true, eq-eqb, arith}
 use Rattle.std.proofs.lemmas.Bool.Decides.{nat_tests}
 use Rattle.std.proofs.lemmas.List.Elements.{All-head}
+use Rattle.std.proofs.lemmas.Bool.{and_from, true≢false}
+use Rattle.std.proofs.lemmas.Option.{same_Some}
 use Rattle.std.specs.Bool.{then_some}
 use Rattle.std.specs.List.{All}
 use Rattle.std.specs.Option.{option_map}
@@ -11,8 +13,8 @@ use Rattle.wm_base.specs.declared.kind.Kind.TheVariants.{Insert, Update, Delete}
 use Rattle.wm_graph.specs.Parts.{Parts, space_of}
 use Rattle.wm_net.specs.Groups.{Group, cell}
 use Rattle.wm_net.specs.Listed.{AreBlocks, Block, IsApart, IsJoined, IsListing, Stretch}
-use Rattle.wm_net.specs.Nets.{IsToldListing, Stamped, gained, gained_at, net, one_stamp, outside, replayed}
-use Rattle.wm_net.proofs.Netting.{Stamped-drop, gained_listed as is_gained, net_is, stamped_told, told_net}
+use Rattle.wm_net.specs.Nets.{IsToldListing, Stamped, gained, gained_at, net, one_stamp, replayed}
+use Rattle.wm_net.proofs.Netting.{Stamped-drop, gained_listed as is_gained, net_is, stamped_told, told_net, outside_given}
 use Rattle.wm_net.proofs.Owing.{AreOther, IsOther, listing_alike, listing_through, other_joined}
 use Rattle.wm_net.proofs.Stretching.{Right}
 use Rattle.wm_period.specs.Pieces.{Held}
@@ -22,9 +24,8 @@ use Rattle.wm_spec.specs.declared.record.table.Table.{Table}
 use Rattle.wm_state.specs.Standing.{IsReal, Stands, held_of}
 use Rattle.wm_state.specs.State.{Durable, Workspace, workspace_of}
 use Rattle.wm_state.proofs.Laying.{key_itself}
-use Rattle.wm_state.proofs.Tests.{and_true, bool_apart}
 use Rattle.wm_telling.specs.Telling.{IsHeldListing, gained_held, own_held, replayed_by, same_held, same_kind, told_by}
-use Rattle.wm_telling.proofs.Beside.{Beside, gained_is_held, gained_tells, own_is_held, own_tells, some_same}
+use Rattle.wm_telling.proofs.Beside.{Beside, gained_is_held, gained_tells, own_is_held, own_tells}
 
 -- ---- the test of what is held
 
@@ -39,15 +40,15 @@ same_gone-itself false = refl
 
 pub same_held-itself : (h : Held) → same_held h h ≡ true
 same_held-itself h =
-    and_true (h.stamp.number == h.stamp.number) _ (eq-eqb h.stamp.number h.stamp.number refl)
-    (and_true (same_kind h.kind h.kind) (if h.gone then h.gone else not h.gone) (same_kind-itself h.kind) (same_gone-itself h.gone))
+    and_from (h.stamp.number == h.stamp.number) _ (eq-eqb h.stamp.number h.stamp.number refl)
+    (and_from (same_kind h.kind h.kind) (if h.gone then h.gone else not h.gone) (same_kind-itself h.kind) (same_gone-itself h.gone))
 
 -- ---- any test that is right for the values joins what another joins
 
 other_first : {A : Type 0} (same : A → A → Bool) → ((x : A) → same x x ≡ true) → (p : Stretch A) (ps : List (Stretch A)) → IsApart same p ps → IsOther p ps
 other_first same itself p [] apart = tt
 other_first same itself p (q ∷ ps) apart = λ meets values.
-    bool_apart (sym (and_true (p.till == q.from) (same p.value q.value) (eq-eqb p.till q.from meets) (ap (λ x. same p.value x) (sym values) ∙ itself p.value)) ∙ apart)
+    true≢false (sym (and_from (p.till == q.from) (same p.value q.value) (eq-eqb p.till q.from meets) (ap (λ x. same p.value x) (sym values) ∙ itself p.value)) ∙ apart)
 
 others : {A : Type 0} (same : A → A → Bool) → ((x : A) → same x x ≡ true) → (ps : List (Stretch A)) → IsJoined same ps → AreOther ps
 others same itself [] joined = tt
@@ -83,7 +84,7 @@ one_number h k = h.stamp.number == k.stamp.number
 stamped_held : (tells : ℕ → Told) (o : Option Told) (x : Held) → ((t : Told) → o ≡ Some t → t ≡ tells t.stamp) → option_map held_of o ≡ Some x → x ≡ held_of (tells x.stamp.number)
 stamped_held tells None x stamped e = absurd (cc)
 stamped_held tells (Some t) x stamped e =
-    let same : held_of t ≡ x = some_same (held_of t) x e in
+    let same : held_of t ≡ x = same_Some (held_of t) x e in
     sym same ∙ ap held_of (stamped t refl) ∙ ap (λ (h : Held). held_of (tells h.stamp.number)) same
 
 right_held : (tells : ℕ → Told) (f : Cell → Option Held) (h : Cell → Option Told) → ((c : Cell) → f c ≡ option_map held_of (h c)) → ((c : Cell) (x : Told) → h c ≡ Some x → x ≡ tells x.stamp)
@@ -116,8 +117,8 @@ net_listed p d n w a moment user tells es st is recorded l stamped =
 -- an entry over a period covers a cell
 covers_own : (e : Entry) → nat_lt e.from e.till ≡ true → covers e (record { table = e.table; key = e.key; time = e.from }) ≡ true
 covers_own e real =
-    and_true _ (nat_le e.from e.from && nat_lt e.from e.till) (and_true (e.table == e.table) _ (eq-eqb e.table e.table refl) (key_itself e.key))
-    (and_true (nat_le e.from e.from) (nat_lt e.from e.till) (grind (arith, nat_tests)) real)
+    and_from _ (nat_le e.from e.from && nat_lt e.from e.till) (and_from (e.table == e.table) _ (eq-eqb e.table e.table refl) (key_itself e.key))
+    (and_from (nat_le e.from e.from) (nat_lt e.from e.till) (grind (arith, nat_tests)) real)
 
 -- so entries over periods that tell nothing are none
 none_told : (tables : List Table) (es : List Entry) → All (IsReal tables) es → ((c : Cell) → told es c ≡ None) → es ≡ []
@@ -150,17 +151,13 @@ own_empty p d n w a moment user tells es st is recorded l stamped empty = net_li
 
 -- ---- what is gained
 
-pub given_pending : (o pending : Option Told) (x : Told) → outside o pending ≡ Some x → pending ≡ Some x
-given_pending (Some t) pending x e = absurd (cc)
-given_pending None pending x e = e
-
 -- entries that list what a workspace gains of its parent are its gained list
 pub gained_listed : (p : Parts) (d : Durable) (n : ℕ) (w q : Workspace) (a b : Space) (moment : ℕ) (user : List ℕ) (tells : ℕ → Told) (es : List Entry) → Beside p d n w q a b
     → IsHeldListing p moment user (gained_held p a b) es → Stamped tells q.lists.log → es ≡ gained moment user w.lists.own (drop w.from q.lists.log)
 gained_listed p d n w q a b moment user tells es beside l stamped =
     is_gained moment user tells w.lists.own (drop w.from q.lists.log) es behind
     (told_listed p moment user tells (gained_held p a b) (gained_at w.lists.own (drop w.from q.lists.log)) es (gained_is_held p d n w q a b beside) (gained_tells p d n w q a b beside)
-    (λ c x e. stamped_told tells (drop w.from q.lists.log) c x behind (given_pending (told w.lists.own c) (told (drop w.from q.lists.log) c) x e)) l)
+    (λ c x e. stamped_told tells (drop w.from q.lists.log) c x behind (outside_given (told w.lists.own c) (told (drop w.from q.lists.log) c) x e)) l)
   where
     behind : Stamped tells (drop w.from q.lists.log)
     behind = Stamped-drop tells w.from q.lists.log stamped

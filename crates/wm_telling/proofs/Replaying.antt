@@ -1,11 +1,13 @@
 -- Entries that list what pieces say were made before: their stamps were given, they fit their tables, and their rows are there.
 use Rattle.std.proofs.Common.{◌≡◌, ℕ, zero, suc, ◌-◌, ◌<◌, ◌≤◌, ◌==◌, ◌&&◌, ◌||◌, nat_le, nat_lt, Bool, true, false, if◌then◌else◌, List, [], ◌∷◌, map, slice_get, Option, Some, None, is_some, refl, sym, ap, ◌∙◌, arith, subst}
-use Rattle.std.proofs.lemmas.Bool.{eqb-true}
+use Rattle.std.proofs.lemmas.Bool.{eqb-true, and_from, and_parts, true≢false}
 use Rattle.std.proofs.lemmas.Bool.Decides.{nat_tests}
 use Rattle.std.proofs.lemmas.List.Elements.{All-append, All-cons, All-from_recursion, All-head, All-map, All-nil, All-tail, All-weaker}
+use Rattle.std.proofs.lemmas.Option.{same_Some}
 use Rattle.std.specs.List.{All, AllByRecursion, list_all}
 use Rattle.std.specs.Option.{option_and_then, option_map, option_map_or}
 use Rattle.std.specs.Ordering.{is_eq}
+use Rattle.wm_base.proofs.Plain.{none_some}
 use Rattle.wm_base.specs.Key.{key_order}
 use Rattle.wm_base.specs.declared.instant.TheConstants.{END}
 use Rattle.wm_base.specs.declared.row.Row.{Row}
@@ -28,21 +30,19 @@ use Rattle.wm_state.specs.Entries.{fits_table, is_keyed, is_well}
 use Rattle.wm_state.specs.Standing.{IsReal, held_by, is_ready}
 use Rattle.wm_state.proofs.Apart.{found-passes, ruled}
 use Rattle.wm_state.proofs.Laying.{key_same}
-use Rattle.wm_state.proofs.Tests.{and_true, bool_apart, both}
 use Rattle.wm_telling.specs.Telling.{IsHeldListing, replayed_by, same_held, told_by}
-use Rattle.wm_telling.proofs.Beside.{some_same}
 use Rattle.wm_telling.proofs.Storing.{IsStored, Stores}
 
 -- ---- lists
 
 all_at : {A : Type 0} (P : A → Bool) (xs : List A) (n : ℕ) (x : A) → list_all P xs ≡ true → slice_get xs n ≡ Some x → P x ≡ true
 all_at P [] n x all e = absurd (cc)
-all_at P (y ∷ ys) zero x all e = ap P (sym (some_same y x e)) ∙ (both (P y) (list_all P ys) all).0
-all_at P (y ∷ ys) (suc n) x all e = all_at P ys n x (both (P y) (list_all P ys) all).1 e
+all_at P (y ∷ ys) zero x all e = ap P (sym (same_Some y x e)) ∙ (and_parts (P y) (list_all P ys) all).0
+all_at P (y ∷ ys) (suc n) x all e = all_at P ys n x (and_parts (P y) (list_all P ys) all).1 e
 
 all_true : {A : Type 0} (P : A → Bool) (xs : List A) → All (λ x. P x ≡ true) xs → list_all P xs ≡ true
 all_true P [] all = refl
-all_true P (x ∷ xs) all = and_true (P x) (list_all P xs) (All-head (λ y. P y ≡ true) x xs all) (all_true P xs (All-tail (λ y. P y ≡ true) x xs all))
+all_true P (x ∷ xs) all = and_from (P x) (list_all P xs) (All-head (λ y. P y ≡ true) x xs all) (all_true P xs (All-tail (λ y. P y ≡ true) x xs all))
 
 -- ---- what the rules say of a piece
 
@@ -72,18 +72,18 @@ module _ (p : Parts) (next : ℕ) where
   row_there x t rows there at = by_row (row_of p.rows x.stamp) refl at
     where
       by_row : (o : Option RowRecord) → row_of p.rows x.stamp ≡ o → option_map_or (is_row_at (table_of p.tables) x.cells) o false ≡ true → HasRow x t
-      by_row None e h = absurd (bool_apart (sym h))
+      by_row None e h = absurd (true≢false (sym h))
       by_row (Some r) e h =
-          let d = both (r.table == x.cells.table) (is_key x.cells.key (option_and_then (λ (u : Table). key_of u r.values) (table_of p.tables x.cells.table))) h in
+          let d = and_parts (r.table == x.cells.table) (is_key x.cells.key (option_and_then (λ (u : Table). key_of u r.values) (table_of p.tables x.cells.table))) h in
           let same : r.table ≡ x.cells.table = eqb-true r.table x.cells.table d.0 in
-          let passed = found-passes (λ (q : RowRecord). q.stamp == x.stamp) (is_row (table_of p.tables) next) p.rows r e (both (differ (λ (q s : RowRecord). q.stamp == s.stamp) p.rows) (list_all (is_row (table_of p.tables) next) p.rows) rows).1 in
+          let passed = found-passes (λ (q : RowRecord). q.stamp == x.stamp) (is_row (table_of p.tables) next) p.rows r e (and_parts (differ (λ (q s : RowRecord). q.stamp == s.stamp) p.rows) (list_all (is_row (table_of p.tables) next) p.rows) rows).1 in
           record {
             row = r;
             found = e;
             table = same;
             stamp = eqb-true r.stamp x.stamp passed.0;
-            keyed = and_true (is_row_of r.values t) (is_key x.cells.key (key_of t r.values))
-                (sym (ap (λ (o : Option Table). option_map_or (is_row_of r.values) o false) (ap (table_of p.tables) same ∙ there)) ∙ (both (nat_lt r.stamp next) (option_map_or (is_row_of r.values) (table_of p.tables r.table) false) passed.1).1)
+            keyed = and_from (is_row_of r.values t) (is_key x.cells.key (key_of t r.values))
+                (sym (ap (λ (o : Option Table). option_map_or (is_row_of r.values) o false) (ap (table_of p.tables) same ∙ there)) ∙ (and_parts (nat_lt r.stamp next) (option_map_or (is_row_of r.values) (table_of p.tables r.table) false) passed.1).1)
                 (sym (ap (λ (o : Option Table). is_key x.cells.key (option_and_then (λ (u : Table). key_of u r.values) o)) there) ∙ d.1);
           }
 
@@ -91,21 +91,21 @@ module _ (p : Parts) (next : ℕ) where
   sound_of x rows e = by_table (table_of p.tables x.cells.table) refl cells.1
     where
       parts : (are_cells (table_of p.tables) x.cells ≡ true) × ((nat_lt x.stamp next && (x.gone || option_map_or (is_row_at (table_of p.tables) x.cells) (row_of p.rows x.stamp) false)) ≡ true)
-      parts = both (are_cells (table_of p.tables) x.cells) _ (both (is_some (version_of p.versions x.version)) _ e).1
+      parts = and_parts (are_cells (table_of p.tables) x.cells) _ (and_parts (is_some (version_of p.versions x.version)) _ e).1
 
       cells : ((nat_lt x.cells.from x.cells.till && nat_le x.cells.till END) ≡ true) × (option_map_or (is_key_of x.cells.key) (table_of p.tables x.cells.table) false ≡ true)
-      cells = both (nat_lt x.cells.from x.cells.till && nat_le x.cells.till END) (option_map_or (is_key_of x.cells.key) (table_of p.tables x.cells.table) false) parts.0
+      cells = and_parts (nat_lt x.cells.from x.cells.till && nat_le x.cells.till END) (option_map_or (is_key_of x.cells.key) (table_of p.tables x.cells.table) false) parts.0
 
       stamped : (nat_lt x.stamp next ≡ true) × ((x.gone || option_map_or (is_row_at (table_of p.tables) x.cells) (row_of p.rows x.stamp) false) ≡ true)
-      stamped = both (nat_lt x.stamp next) (x.gone || option_map_or (is_row_at (table_of p.tables) x.cells) (row_of p.rows x.stamp) false) parts.1
+      stamped = and_parts (nat_lt x.stamp next) (x.gone || option_map_or (is_row_at (table_of p.tables) x.cells) (row_of p.rows x.stamp) false) parts.1
 
       by_table : (o : Option Table) → table_of p.tables x.cells.table ≡ o → option_map_or (is_key_of x.cells.key) o false ≡ true → Sound x
-      by_table None there h = absurd (bool_apart (sym h))
+      by_table None there h = absurd (true≢false (sym h))
       by_table (Some t) there h = record {
         table = t;
         there = there;
         key = h;
-        till = (both (nat_lt x.cells.from x.cells.till) (nat_le x.cells.till END) cells.0).1;
+        till = (and_parts (nat_lt x.cells.from x.cells.till) (nat_le x.cells.till END) cells.0).1;
         stamp = stamped.0;
         row = λ kept. row_there x t rows there (sym (ap (λ g. g || option_map_or (is_row_at (table_of p.tables) x.cells) (row_of p.rows x.stamp) false) kept) ∙ stamped.1);
       }
@@ -134,7 +134,7 @@ module _ (p : Parts) (next : ℕ) where
       ap (λ (n : ℕ). option_map_or (fits_table e.key e.row) (table_of p.tables n) false) says.table
       ∙ ap (λ (o : Option Table). option_map_or (fits_table e.key e.row) o false) sound.there
       ∙ ap (λ (k : List Value). fits_table k e.row sound.table) says.key
-      ∙ and_true (is_key_of x.cells.key sound.table) (option_map_or (is_keyed sound.table x.cells.key) e.row true) sound.key (by_gone x.gone refl)
+      ∙ and_from (is_key_of x.cells.key sound.table) (option_map_or (is_keyed sound.table x.cells.key) e.row true) sound.key (by_gone x.gone refl)
     where
       by_gone : (g : Bool) → x.gone ≡ g → option_map_or (is_keyed sound.table x.cells.key) e.row true ≡ true
       by_gone true is = ap (λ (o : Option Row). option_map_or (is_keyed sound.table x.cells.key) o true) (row_gone x e says is)
@@ -148,14 +148,11 @@ module _ (p : Parts) (next : ℕ) where
   says_copied : (x : PieceRecord) (e : Entry) → Sound x → Says x e → IsCopied p e
   says_copied x e sound says row has = by_gone x.gone refl
     where
-      none_some : (o : Option Row) → o ≡ None → o ≡ Some row → ⊥
-      none_some o none some = cc
-
       by_gone : (g : Bool) → x.gone ≡ g → row_of p.rows e.stamp ≡ Some (record { stamp = e.stamp; table = e.table; values = row.values })
-      by_gone true is = absurd (none_some e.row (row_gone x e says is) has)
+      by_gone true is = absurd (none_some e.row row (row_gone x e says is) has)
       by_gone false is =
           let h = sound.row is in
-          let same : row_value h.row.values ≡ row = some_same (row_value h.row.values) row (sym (row_kept x sound.table e says is h) ∙ has) in
+          let same : row_value h.row.values ≡ row = same_Some (row_value h.row.values) row (sym (row_kept x sound.table e says is h) ∙ has) in
           ap (row_of p.rows) says.stamp ∙ h.found
           ∙ ap (λ (r : RowRecord). Some r)
           (row_same h.row (record { stamp = e.stamp; table = e.table; values = row.values }) (h.stamp ∙ sym says.stamp) (h.table ∙ sym says.table) (ap (λ (r : Row). r.values) same))
@@ -207,14 +204,14 @@ module _ (p : Parts) (k : Counters) (moment : ℕ) (user : List ℕ) (f : Cell �
       let same = counters_same r.counters r.one in
       let rows : are_rows p k.next_stamp ≡ true = ap (λ (c : Counters). are_rows p c.next_stamp) (sym same) ∙ r.rows in
       let pieces : are_pieces p k.next_stamp ≡ true = ap (λ (c : Counters). are_pieces p c.next_stamp) (sym same) ∙ r.pieces in
-      sound_of p k.next_stamp x rows (all_at (is_sound p k.next_stamp) p.pieces place x (both (differ collide p.pieces) (list_all (is_sound p k.next_stamp) p.pieces) pieces).1 there)
+      sound_of p k.next_stamp x rows (all_at (is_sound p k.next_stamp) p.pieces place x (and_parts (differ collide p.pieces) (list_all (is_sound p k.next_stamp) p.pieces) pieces).1 there)
 
   -- an entry of a stretch that the function gives
   made : (g : Group) (s : Stretch Held) → s.from < s.till → ((t : ℕ) → s.from ≤ t → t < s.till → f (cell g t) ≡ Some s.value) → IsMade p k.next_stamp user (replayed_by p moment user g s)
   made g s real over = record {
     stamp = ap (λ (h : Held). nat_lt h.stamp.number k.next_stamp) (sym stored.says) ∙ sound.stamp;
     some = real;
-    till = ended s.from s.till stored.piece.cells.till END real (both (nat_le stored.piece.cells.from last) (nat_lt last stored.piece.cells.till) place.1).1 sound.till;
+    till = ended s.from s.till stored.piece.cells.till END real (and_parts (nat_le stored.piece.cells.from last) (nat_lt last stored.piece.cells.till) place.1).1 sound.till;
     well = says_well p k.next_stamp stored.piece (replayed_by p moment user g s) sound says;
     copied = says_copied p k.next_stamp stored.piece (replayed_by p moment user g s) sound says;
     by_user = refl;
@@ -236,11 +233,11 @@ module _ (p : Parts) (k : Counters) (moment : ℕ) (user : List ℕ) (f : Cell �
       sound = piece_sound stored.place stored.piece stored.there
 
       place : (((stored.piece.cells.table == g.table) && is_eq (key_order stored.piece.cells.key g.key)) ≡ true) × ((nat_le stored.piece.cells.from (s.till - 1) && nat_lt (s.till - 1) stored.piece.cells.till) ≡ true)
-      place = both ((stored.piece.cells.table == g.table) && is_eq (key_order stored.piece.cells.key g.key)) (nat_le stored.piece.cells.from (s.till - 1) && nat_lt (s.till - 1) stored.piece.cells.till) stored.covers
+      place = and_parts ((stored.piece.cells.table == g.table) && is_eq (key_order stored.piece.cells.key g.key)) (nat_le stored.piece.cells.from (s.till - 1) && nat_lt (s.till - 1) stored.piece.cells.till) stored.covers
 
       says : Says p k.next_stamp stored.piece (replayed_by p moment user g s)
       says =
-          let at = both (stored.piece.cells.table == g.table) (is_eq (key_order stored.piece.cells.key g.key)) place.0 in
+          let at = and_parts (stored.piece.cells.table == g.table) (is_eq (key_order stored.piece.cells.key g.key)) place.0 in
           record {
             table = sym (eqb-true stored.piece.cells.table g.table at.0);
             key = sym (key_same stored.piece.cells.key g.key at.1);
@@ -256,7 +253,7 @@ module _ (p : Parts) (k : Counters) (moment : ℕ) (user : List ℕ) (f : Cell �
   real_of : (xs : List Entry) → All (IsMade p k.next_stamp user) xs → list_all (λ (e : Entry). is_ready p.tables e.table) xs ≡ true → All (IsReal p.tables) xs
   real_of [] all ready = All-nil (IsReal p.tables)
   real_of (e ∷ xs) all ready =
-      let h = both (is_ready p.tables e.table) (list_all (λ (x : Entry). is_ready p.tables x.table) xs) ready in
+      let h = and_parts (is_ready p.tables e.table) (list_all (λ (x : Entry). is_ready p.tables x.table) xs) ready in
       let m = All-head (IsMade p k.next_stamp user) e xs all in
       All-cons (IsReal p.tables) e xs (record { some = m.some; till = m.till; on = h.0 }) (real_of xs (All-tail (IsMade p k.next_stamp user) e xs all) h.1)
 

@@ -1,6 +1,7 @@
 -- Entries that list what is held go by table and key, and no two of them share a cell.
-use Rattle.std.proofs.Common.{◌≡◌, ℕ, ◌≤◌, ◌==◌, ◌&&◌, ◌||◌, nat_lt, Bool, true, false, not, List, [], ◌∷◌, ◌++◌, map, Option, refl, ap, ◌∙◌, arith}
+use Rattle.std.proofs.Common.{◌≡◌, ℕ, ◌≤◌, ◌==◌, ◌&&◌, nat_lt, Bool, true, false, not, List, [], ◌∷◌, ◌++◌, map, Option, refl, ap, ◌∙◌, arith}
 use Rattle.std.proofs.lemmas.Bool.Decides.{nat_tests}
+use Rattle.std.proofs.lemmas.Bool.{and_from, or_from}
 use Rattle.std.specs.List.{AllByRecursion, list_any}
 use Rattle.std.specs.Ordering.{is_gt}
 use Rattle.std.specs.declared.cmp.Ordering.{Ordering}
@@ -13,7 +14,6 @@ use Rattle.wm_period.specs.Pieces.{Held}
 use Rattle.wm_spec.specs.Lists.{Cell, Entry}
 use Rattle.wm_state.specs.Drafts.{are_in_order, entry_order}
 use Rattle.wm_state.specs.Entries.{piece_of, pieces_of}
-use Rattle.wm_state.proofs.Tests.{and_true}
 use Rattle.wm_telling.specs.Telling.{IsHeldListing, replayed_by, same_held}
 
 -- ---- in order
@@ -25,11 +25,7 @@ IsBefore g (e ∷ es) = not (is_gt (group_order g (group_of e))) ≡ true
 
 in_order-cons : (e : Entry) (es : List Entry) → IsBefore (group_of e) es → are_in_order es ≡ true → are_in_order (e ∷ es) ≡ true
 in_order-cons e [] before rest = refl
-in_order-cons e (f ∷ fs) before rest = and_true (not (is_gt (entry_order e f))) (are_in_order (f ∷ fs)) before rest
-
-neither : (a b : Bool) → a ≡ false → b ≡ false → (a || b) ≡ false
-neither true b e f = e
-neither false b e f = f
+in_order-cons e (f ∷ fs) before rest = and_from (not (is_gt (entry_order e f))) (are_in_order (f ∷ fs)) before rest
 
 last_fails : (a b d : Bool) → d ≡ false → (a && (b && d)) ≡ false
 last_fails true true d e = e
@@ -92,7 +88,7 @@ module _ (p : Parts) (moment : ℕ) (user : List ℕ) where
   apart_rest : (g : Group) (s : Stretch Held) (rest : List Entry) → IsNoneOf g rest → list_any (collide (piece_of 0 (replayed_by p moment user g s))) (pieces_of 0 rest) ≡ false
   apart_rest g s [] none = refl
   apart_rest g s (e ∷ rest) none =
-      neither (collide (piece_of 0 (replayed_by p moment user g s)) (piece_of 0 e)) (list_any (collide (piece_of 0 (replayed_by p moment user g s))) (pieces_of 0 rest))
+      or_from (collide (piece_of 0 (replayed_by p moment user g s)) (piece_of 0 e)) (list_any (collide (piece_of 0 (replayed_by p moment user g s))) (pieces_of 0 rest))
       (second_fails (let version : ℕ = 0 in version == 0) (same_group g (group_of e)) (nat_lt s.from e.till && nat_lt e.from s.till) none.0)
       (apart_rest g s rest none.1)
 
@@ -101,7 +97,7 @@ module _ (p : Parts) (moment : ℕ) (user : List ℕ) where
       → list_any (collide (piece_of 0 (replayed_by p moment user g s))) (pieces_of 0 (entries g ss ++ rest)) ≡ false
   apart_own g s low [] rest le o none = apart_rest g s rest none
   apart_own g s low (q ∷ ss) rest le o none =
-      neither (collide (piece_of 0 (replayed_by p moment user g s)) (piece_of 0 (replayed_by p moment user g q))) (list_any (collide (piece_of 0 (replayed_by p moment user g s))) (pieces_of 0 (entries g ss ++ rest)))
+      or_from (collide (piece_of 0 (replayed_by p moment user g s)) (piece_of 0 (replayed_by p moment user g q))) (list_any (collide (piece_of 0 (replayed_by p moment user g s))) (pieces_of 0 (entries g ss ++ rest)))
       (last_fails ((let version : ℕ = 0 in version == 0) && same_group g g) (nat_lt s.from q.till) (nat_lt q.from s.till) (late s.till low q.from le o.0))
       (apart_own g s q.till ss rest (omega (arith, le, o.0, o.1)) o.2 none)
     where
@@ -112,7 +108,7 @@ module _ (p : Parts) (moment : ℕ) (user : List ℕ) where
       → differ collide (pieces_of 0 (entries g ss ++ rest)) ≡ true
   apart_block g low [] rest o none apart = apart
   apart_block g low (s ∷ ss) rest o none apart =
-      and_true (not (list_any (collide (piece_of 0 (replayed_by p moment user g s))) (pieces_of 0 (entries g ss ++ rest)))) (differ collide (pieces_of 0 (entries g ss ++ rest)))
+      and_from (not (list_any (collide (piece_of 0 (replayed_by p moment user g s))) (pieces_of 0 (entries g ss ++ rest)))) (differ collide (pieces_of 0 (entries g ss ++ rest)))
       (ap not (apart_own g s s.till ss rest (omega arith) o.2 none)) (apart_block g s.till ss rest o.2 none apart)
 
   apart_blocks : (f : Cell → Option Held) (bs : List (Block Held)) → GroupsAscend (groups_of bs) → AreBlocks same_held f bs → differ collide (pieces_of 0 (all_entries bs)) ≡ true

@@ -1,5 +1,7 @@
 -- What records tell of a cell is what a piece says that covers it.
 use Rattle.std.proofs.Common.{◌≡◌, ℕ, suc, ◌==◌, Bool, true, false, if◌then◌else◌, List, [], ◌∷◌, slice_get, Option, Some, None, is_some, refl, ◌∙◌}
+use Rattle.std.proofs.lemmas.Bool.{and_parts}
+use Rattle.std.proofs.lemmas.Option.{same_Some}
 use Rattle.std.specs.Bool.{then_some}
 use Rattle.std.specs.Option.{option_or}
 use Rattle.wm_graph.specs.Parts.{Parts}
@@ -9,9 +11,7 @@ use Rattle.wm_spec.specs.declared.record.piece.PieceRecord.{PieceRecord}
 use Rattle.wm_spec.specs.declared.record.space.Space.{Space}
 use Rattle.wm_state.specs.Standing.{covers_at, held_by, in_cells, latest, newest_first, seen, seen_at, stored_at}
 use Rattle.wm_state.proofs.Owning.{own-seen}
-use Rattle.wm_state.proofs.Tests.{both}
 use Rattle.wm_telling.specs.Telling.{gained_held, is_pending, own_held}
-use Rattle.wm_telling.proofs.Beside.{some_same}
 
 -- one of the pieces covers the cell and says what is held there
 pub record IsStored (pieces : List PieceRecord) (c : Cell) (h : Held) : Type 0 where
@@ -33,10 +33,10 @@ stored_there (x ∷ xs) version c h e = by_test (covers_at x version c) refl (st
     behind s = record { piece = s.piece; place = suc s.place; there = s.there; covers = s.covers; says = s.says }
 
     by_test : (b : Bool) → covers_at x version c ≡ b → (stored_at xs version c ≡ Some h → IsStored xs c h) → option_or (then_some b (held_by x)) (stored_at xs version c) ≡ Some h → IsStored (x ∷ xs) c h
-    by_test true is rest k = record { piece = x; place = 0; there = refl; covers = (both (x.version == version) (in_cells x.cells c) is).1; says = some_same (held_by x) h k }
+    by_test true is rest k = record { piece = x; place = 0; there = refl; covers = (and_parts (x.version == version) (in_cells x.cells c) is).1; says = same_Some (held_by x) h k }
     by_test false is rest k = behind (rest k)
 
-seen_stored : (pieces : List PieceRecord) (nodes : _) (version : ℕ) (c : Cell) (h : Held) → seen_at pieces nodes version c ≡ Some h → IsStored pieces c h
+pub seen_stored : (pieces : List PieceRecord) (nodes : _) (version : ℕ) (c : Cell) (h : Held) → seen_at pieces nodes version c ≡ Some h → IsStored pieces c h
 seen_stored pieces [] version c h e = absurd (cc)
 seen_stored pieces (x ∷ older) version c h e =
     by_test (x.number == version) (stored_at pieces version c) refl e (seen_stored pieces older x.parent c h) (seen_stored pieces older version c h)

@@ -1,12 +1,12 @@
 -- What the token at the front says of the first symbol.
 use Rattle.std.proofs.Common.{◌≡◌, ◌≢◌, ℕ, suc, ◌<◌, ◌≤◌, map, get_or, Bool, true, false, List, [], ◌∷◌, length, take, drop, refl, sym, ap, subst, ◌∙◌, arith}
 use Rattle.std.specs.Prelude.{◌==◌, ◌||◌}
-use Rattle.std.proofs.lemmas.Bool.{eqb-true}
+use Rattle.std.proofs.lemmas.Bool.{eqb-true, eq-eqb}
 use Rattle.std.proofs.Math.Seq.{drop-cons}
 use Rattle.std.proofs.lemmas.List.{drop_all}
+use Rattle.std.proofs.Math.Bool.{or-false}
 use Rattle.wm_grammar.specs.Sorts.{code_of}
 use Rattle.wm_grammar.specs.declared.sort.Sort.{Sort}
-use Rattle.wm_grammar.proofs.Lists.{same_sort}
 use Rattle.wm_lexer.specs.Scanning.{skipped, token_from}
 use Rattle.wm_lexer.proofs.Longest.{some_byte}
 use Rattle.wm_grammar.specs.Symbols.{Symbol, left_of, has, next_in}
@@ -19,10 +19,6 @@ pub left_is : (rest : List ℕ) → length rest ≡ left_of (scanned rest)
 left_is [] = sym (ap left_of scanned_none)
 left_is (b ∷ bs) = sym (ap left_of (scanned_one b bs))
 
-or_false : (b : Bool) → b ≡ (b || false)
-or_false true = refl
-or_false false = refl
-
 not_end : (s : ℕ) → s ≢ 77 → (77 == s) ≡ false
 not_end s ne = go (77 == s) refl
   where
@@ -32,7 +28,7 @@ not_end s ne = go (77 == s) refl
 
 pub next_is : (rest : List ℕ) (code size s : ℕ) → Peeks rest code size → s ≢ 77 → (code == s) ≡ next_in (s ∷ []) (scanned rest)
 next_is [] code size s p ne = ap (λ (n : ℕ). n == s) p.0 ∙ not_end s ne ∙ sym (ap (next_in (s ∷ [])) scanned_none)
-next_is (b ∷ bs) code size s p ne = ap (λ (n : ℕ). n == s) p.0 ∙ or_false ((symbol_from b bs).sort == s) ∙ sym (ap (next_in (s ∷ [])) (scanned_one b bs))
+next_is (b ∷ bs) code size s p ne = ap (λ (n : ℕ). n == s) p.0 ∙ sym (or-false ((symbol_from b bs).sort == s)) ∙ sym (ap (next_in (s ∷ [])) (scanned_one b bs))
 
 pub word_is : (rest : List ℕ) (code size : ℕ) → Peeks rest code size → take size rest ≡ next_text (scanned rest)
 word_is [] code size p = ap (λ (n : ℕ). take n []) p.1 ∙ sym (ap next_text scanned_none)
@@ -51,7 +47,7 @@ among_all sorts d i code lt e =
     ap (λ (x : List Sort). has (map code_of x) code) (drop-cons sorts i d lt) ∙ first (code_of (get_or sorts i d)) (has (map code_of (drop (suc i) sorts)) code) e
   where
     first : (n : ℕ) (z : Bool) → code ≡ n → ((code == n) || z) ≡ true
-    first n z e = rw (same_sort code n e) refl
+    first n z e = rw (eq-eqb code n e) refl
 
 -- the sort is the i-th of those that are looked for
 pub found_among : (rest : List ℕ) (next size : ℕ) (sorts : List Sort) (d : Sort) (i code : ℕ) (ts : List Symbol) → Peeks rest next size → scanned rest ≡ ts → has (map code_of sorts) 77 ≡ false → has (map code_of sorts) next ≡ has (map code_of (drop i sorts)) next

@@ -1,9 +1,10 @@
 -- A tree without the versions of a space, under which no version of another space stands.
 use Rattle.std.proofs.Common.{◌≡◌, ◌≢◌, ℕ, Bool, true, false, not, cond, eqb, List, [], ◌∷◌, Option, Some, None, refl, sym, ap, ◌∙◌, subst, ◌⊎◌, inl, inr}
 use Rattle.std.proofs.lemmas.Bool.{cases_eq, eq-eqb, ne_eqb}
+use Rattle.std.proofs.lemmas.Option.{same_Some}
 use Rattle.std.specs.List.{filter}
 use Rattle.std.specs.Option.{IsSome, IfSome, IsSomeAnd}
-use Rattle.wm_tree.proofs.Paths.{version_in-here, version_in-away, path_in-here, path_in-away, path_in-none, latest_in-here, latest_in-away, version_in-zero, some_same}
+use Rattle.wm_tree.proofs.Paths.{version_in-here, version_in-away, path_in-here, path_in-away, path_in-none, latest_in-here, latest_in-away, version_in-zero}
 use Rattle.wm_tree.specs.Versions.{version_in, path_in, latest_in, is_outside, NoneUnder, AllBelow, IsTree}
 use Rattle.wm_tree.specs.declared.version.Version.{Version}
 
@@ -32,7 +33,7 @@ version_in-filter s (x ∷ older) n y there other =
     by_number : (x.number ≡ n) ⊎ (x.number ≢ n) → (x.space ≡ s) ⊎ (x.space ≢ s) → (version_in older n ≡ Some y → version_in (filter (is_outside s) older) n ≡ Some y)
         → version_in (filter (is_outside s) (x ∷ older)) n ≡ Some y
     by_number (inl here) (inl inside) rest =
-        let same : x ≡ y = some_same x y (sym (version_in-here x older n here) ∙ there) in
+        let same : x ≡ y = same_Some x y (sym (version_in-here x older n here) ∙ there) in
         absurd (other (ap (λ (v : Version). v.space) (sym same) ∙ inside))
     by_number (inl here) (inr outside) rest =
         ap (λ l. version_in l n) (filter-outside s x older outside) ∙ version_in-here x (filter (is_outside s) older) n here ∙ sym (version_in-here x older n here) ∙ there

@@ -1,6 +1,7 @@
 -- Versions, paths and newest versions, where one is added and where those of a space are dropped.
 use Rattle.std.proofs.Common.{◌≡◌, ◌≢◌, ◌<◌, ◌≤◌, ℕ, false, cond, ◌||◌, nat_eq, eqb, List, [], ◌∷◌, Option, Some, None, refl, sym, ap, ◌∙◌, subst, arith, ◌⊎◌, inl, inr, length}
 use Rattle.std.proofs.lemmas.Bool.{cases_eq, eq-eqb, ne_eqb}
+use Rattle.std.proofs.lemmas.Option.{same_Some}
 use Rattle.std.specs.List.{list_any}
 use Rattle.std.specs.Option.{IsSome, IfSome, IfNone}
 use Rattle.wm_tree.specs.Versions.{version_in, path_in, latest_in, AllBelow, IsTree}
@@ -67,9 +68,6 @@ parent_older x older tree = by_root (cases_eq x.parent 0)
     by_root (inl root) = omega (arith, tree.0)
     by_root (inr under) = version_in-below x.number older x.parent tree.1 (tree.2 under)
 
-pub some_same : (x y : Version) → Some x ≡ Some y → x ≡ y
-some_same x y e = cc
-
 -- a version that is there has the number sought, and its parent a smaller one
 pub record Found (n : ℕ) (y : Version) : Type 0 where
   pub number : y.number ≡ n
@@ -81,7 +79,7 @@ found (x ∷ older) n y tree there = by_number (cases_eq x.number n) (λ below. 
   where
     by_number : (x.number ≡ n) ⊎ (x.number ≢ n) → (version_in older n ≡ Some y → Found n y) → Found n y
     by_number (inl here) rest =
-        let same : x ≡ y = some_same x y (sym (version_in-here x older n here) ∙ there) in
+        let same : x ≡ y = same_Some x y (sym (version_in-here x older n here) ∙ there) in
         subst (Found n) same (record { number = here; parent = omega (arith, parent_older x older tree) })
     by_number (inr away) rest = rest (sym (version_in-away x older n away) ∙ there)
 
@@ -92,7 +90,7 @@ path_in-there (x ∷ older) n y tree there = by_number (cases_eq x.number n) (λ
   where
     by_number : (x.number ≡ n) ⊎ (x.number ≢ n) → (version_in older n ≡ Some y → path_in older n ≡ n ∷ path_in older y.parent) → path_in (x ∷ older) n ≡ n ∷ path_in (x ∷ older) y.parent
     by_number (inl here) rest =
-        let same : x ≡ y = some_same x y (sym (version_in-here x older n here) ∙ there) in
+        let same : x ≡ y = same_Some x y (sym (version_in-here x older n here) ∙ there) in
         let less = parent_older x older tree in
         path_in-here x older n here
         ∙ ap (λ l. n ∷ l) (sym (path_in-away x older x.parent (λ e. absurd (omega arith))))

@@ -1,5 +1,6 @@
 -- A condition that names nothing unknown or lacking and compares nothing mistyped is typed.
 use Rattle.std.proofs.Common.{◌≡◌, ℕ, Bool, true, false, ◌&&◌, List, [], ◌∷◌, Option, None, Some, is_some, refl, sym, ap, ◌∙◌, if◌then◌else◌}
+use Rattle.std.proofs.lemmas.Bool.{and_from}
 use Rattle.std.specs.List.{list_all}
 use Rattle.wm_base.proofs.Plain.{none_mapped, none_since, option_or_parts}
 use Rattle.wm_base.specs.declared.columns.Column.{Column}
@@ -19,10 +20,6 @@ use Rattle.wm_typing.specs.Names.{named_kind, unknown_in_operand, unknown_in_con
 use Rattle.wm_typing.specs.Types.{mark_text, mistyped_in_cond, mistyped_in_filter, is_filter_typed}
 use Rattle.wm_typing.proofs.ByName.{operand_is}
 use Rattle.wm_typing.proofs.Nones.{holds, fails, unknown_none, mistyped_none, lacking_none}
-
-both : (a b : Bool) → a ≡ true → b ≡ true → a && b ≡ true
-both true b e f = f
-both false b e f = e
 
 -- an operator on two periods that are there has a type
 tested : (left right : Bool) → left ≡ true → right ≡ true → is_some {T = ℕ} (if left && right then Some 1 else None) ≡ true
@@ -60,20 +57,20 @@ between : (columns : List Column) (what low high : Operand) → lacking_in_opera
     may_compare (named_kind what columns) (named_kind low columns) && may_compare (named_kind what columns) (named_kind high columns) ≡ true →
     may_compare (operand_kind what columns) (operand_kind low columns) && may_compare (operand_kind what columns) (operand_kind high columns) ≡ true
 between columns what low high w l h may =
-    both _ _
+    and_from _ _
     (compared _ _ _ _ (operand_is columns what w) (operand_is columns low l) (first_true (may_compare (named_kind what columns) (named_kind low columns)) _ may))
     (compared _ _ _ _ (operand_is columns what w) (operand_is columns high h) (second_true (may_compare (named_kind what columns) (named_kind low columns)) _ may))
 
 pub typed_where : (columns : List Column) (c : Cond) → unknown_in_cond columns c ≡ None → mistyped_in_cond columns c ≡ None → lacking_in_cond columns c ≡ None → typed_in c columns ≡ true
 typed_where columns (Or c d) u m l =
-    both _ _ (typed_where columns c (option_or_parts _ _ u).0 (option_or_parts _ _ m).0 (option_or_parts _ _ l).0) (typed_where columns d (option_or_parts _ _ u).1 (option_or_parts _ _ m).1 (option_or_parts _ _ l).1)
+    and_from _ _ (typed_where columns c (option_or_parts _ _ u).0 (option_or_parts _ _ m).0 (option_or_parts _ _ l).0) (typed_where columns d (option_or_parts _ _ u).1 (option_or_parts _ _ m).1 (option_or_parts _ _ l).1)
 typed_where columns (And c d) u m l =
-    both _ _ (typed_where columns c (option_or_parts _ _ u).0 (option_or_parts _ _ m).0 (option_or_parts _ _ l).0) (typed_where columns d (option_or_parts _ _ u).1 (option_or_parts _ _ m).1 (option_or_parts _ _ l).1)
+    and_from _ _ (typed_where columns c (option_or_parts _ _ u).0 (option_or_parts _ _ m).0 (option_or_parts _ _ l).0) (typed_where columns d (option_or_parts _ _ u).1 (option_or_parts _ _ m).1 (option_or_parts _ _ l).1)
 typed_where columns (Not c) u m l = typed_where columns c u m l
 typed_where columns (Compare left cmp right) u m l =
     compared _ _ _ _ (operand_is columns left (option_or_parts _ _ l).0) (operand_is columns right (option_or_parts _ _ l).1) (holds _ (mark_text cmp) m)
 typed_where columns (IsNull what negated) u m l = there columns what u l
-typed_where columns (OneOf what negated list) u m l = both _ _ (there columns what u l) (listed _ _ list (operand_is columns what l) (holds _ _ m))
+typed_where columns (OneOf what negated list) u m l = and_from _ _ (there columns what u l) (listed _ _ list (operand_is columns what l) (holds _ _ m))
 typed_where columns (Between what negated low high) u m l =
     between columns what low high (option_or_parts _ _ l).0 (option_or_parts _ _ (option_or_parts _ _ l).1).0 (option_or_parts _ _ (option_or_parts _ _ l).1).1 (holds _ _ m)
 
@@ -103,7 +100,7 @@ each_typed : (columns : List Column) (sources : List Src) → unknown_in_sources
     are_sources_typed columns sources ≡ true
 each_typed columns [] u m l = refl
 each_typed columns (source ∷ sources) u m l =
-    both _ _ (filter_typed columns source.on (option_or_parts _ _ u).0 (option_or_parts _ _ m).0 (option_or_parts _ _ l).0) (each_typed columns sources (option_or_parts _ _ u).1 (option_or_parts _ _ m).1 (option_or_parts _ _ l).1)
+    and_from _ _ (filter_typed columns source.on (option_or_parts _ _ u).0 (option_or_parts _ _ m).0 (option_or_parts _ _ l).0) (each_typed columns sources (option_or_parts _ _ u).1 (option_or_parts _ _ m).1 (option_or_parts _ _ l).1)
 
 -- a query that is not refused lacks no WM_VALID
 pub query_served : (columns : List Column) (query : Query) → query_fault_in columns query ≡ None → lacking_in_query columns query ≡ None

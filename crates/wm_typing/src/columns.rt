@@ -30,8 +30,8 @@ fn declared_column(alloc: Global, source: &Name, column: &TableColumn) -> Result
     })
 }
 
-/// The column of the periods of validity.
-fn valid_column(alloc: Global, source: &Name) -> Result<Column, Memory>
+/// The column of the periods of validity, of a source of that name.
+pub fn valid_column(alloc: Global, source: &Name) -> Result<Column, Memory>
     ensures { IfOk result (λ made. made ≡ valid_column source.now) }
 {
     Ok(Column {

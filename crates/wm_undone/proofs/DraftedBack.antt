@@ -1,6 +1,6 @@
 -- What the batch of a workspace that goes back to a savepoint makes of the records.
 use Rattle.std.proofs.Common.{◌≡◌, ℕ, ◌+◌, nat_lt, true, List, [], ◌∷◌, ◌++◌, map, Some, is_some, refl, sym, ap, subst, ◌∙◌}
-use Rattle.std.proofs.lemmas.Bool.{ne_eqb}
+use Rattle.std.proofs.lemmas.Bool.{ne_eqb, and_from, lt-ltb, true≢false}
 use Rattle.std.specs.List.{list_all}
 use Rattle.std.specs.Option.{option_map, unwrap_or}
 use Rattle.std.specs.declared.alloc.Global.{Global}
@@ -32,11 +32,11 @@ use Rattle.wm_state.proofs.RowsStay.{away_append, away_dropped, new_apart, row_a
 use Rattle.wm_state.proofs.SavedAs.{IsSaved, made_some_there}
 use Rattle.wm_state.proofs.Settled.{Places, PlacesApart, places_apart}
 use Rattle.wm_state.proofs.Spaces.{SpaceIs, space_there}
-use Rattle.wm_state.proofs.Tests.{and_true, bool_apart}
 use Rattle.wm_state.proofs.WorkedOn.{counted_put, first_change}
 use Rattle.wm_written.proofs.Ids.{are_under}
+use Rattle.wm_written.proofs.DraftedWritten.{all_below, two_before}
 use Rattle.wm_undone.specs.Restoring.{GoesBack, keeps_back, restore_batch, restored, restored_to}
-use Rattle.wm_undone.proofs.Dropped.{all_below, kept_behind, lt_test, two_before}
+use Rattle.wm_undone.proofs.Dropped.{kept_behind}
 use Rattle.wm_undone.proofs.RestoringBatch.{agree_back, changes-back, keep_plan_back, plan_back}
 use Rattle.wm_undone.proofs.RestoringKept.{MayGoBack}
 
@@ -106,9 +106,9 @@ drafts_restored rs m work n making c a x counters_id space_id id ids rules can_w
   kept = kept_behind ids (put id (records.Version y) ∷ []) refl;
   counted = λ some_edits. counted_put rs work counters_id c d batch sorted one once (first_change counters_id _ _) keeps refl;
   nothing = some_edit (edits.Restore n making) [] batch;
-  few = λ forks. absurd (bool_apart (sym forks));
+  few = λ forks. absurd (true≢false (sym forks));
   spared = λ i entries one_append. absurd (no_append i entries one_append);
-  turned = λ left. absurd (bool_apart (sym left));
+  turned = λ left. absurd (true≢false (sym left));
 }
   where
     no_append : (i : ℕ) (entries : Vec NewEntry Global) → edits.Restore n making ∷ [] ≡ edits.Append i entries ∷ [] → ⊥
@@ -156,4 +156,4 @@ drafts_restored rs m work n making c a x counters_id space_id id ids rules can_w
     once : AreChanges batch
     once = changes-back counters_id d space_id (restored_to x a) ids id y
         (two_before counters_id space_id ids (ne_eqb space_id counters_id (λ same. apart.apart (sym same))) (are counters_id (records.Counters c) counters) (are space_id (records.Space a) space) differ)
-        (and_true (nat_lt counters_id id) _ (lt_test counters_id id apart.counters) (and_true (nat_lt space_id id) (are_under id ids) (lt_test space_id id apart.space) (all_below rs id ids under some)))
+        (and_from (nat_lt counters_id id) _ (lt-ltb counters_id id apart.counters) (and_from (nat_lt space_id id) (are_under id ids) (lt-ltb space_id id apart.space) (all_below rs id ids under some)))

@@ -1,5 +1,6 @@
 -- What the batch of a workspace that goes makes of the records.
 use Rattle.std.proofs.Common.{◌≡◌, ℕ, ◌+◌, true, List, [], ◌∷◌, Some, is_some, refl, sym, ap}
+use Rattle.std.proofs.lemmas.Bool.{true≢false}
 use Rattle.std.specs.List.{list_all}
 use Rattle.std.specs.declared.alloc.Global.{Global}
 use Rattle.std.specs.declared.vec.Vec.{Vec}
@@ -20,7 +21,6 @@ use Rattle.wm_state.specs.declared.edit.NewEntry.{NewEntry}
 use Rattle.wm_state.proofs.Counting.{counts_as, counts_in, moved_well, work_grows}
 use Rattle.wm_state.proofs.Drafted.{some_edit}
 use Rattle.wm_state.proofs.RowsStay.{away_dropped, row_apart, rows_stay}
-use Rattle.wm_state.proofs.Tests.{bool_apart}
 use Rattle.wm_state.proofs.WorkedOn.{counted_put, first_change}
 use Rattle.wm_undone.specs.Removing.{keeps_without, remove_batch}
 use Rattle.wm_undone.proofs.Dropped.{kept_dropped, one_before}
@@ -46,9 +46,9 @@ drafts_removed rs m work n c counters_id ids rules can_work one can there sorted
   kept = kept_dropped ids;
   counted = λ some_edits. counted_put rs work counters_id c d batch sorted one once (first_change counters_id _ _) keeps refl;
   nothing = some_edit (edits.Remove n) [] batch;
-  few = λ forks. absurd (bool_apart (sym forks));
+  few = λ forks. absurd (true≢false (sym forks));
   spared = λ i entries one_append. absurd (no_append i entries one_append);
-  turned = λ left. absurd (bool_apart (sym left));
+  turned = λ left. absurd (true≢false (sym left));
 }
   where
     no_append : (i : ℕ) (entries : Vec NewEntry Global) → edits.Remove n ∷ [] ≡ edits.Append i entries ∷ [] → ⊥

@@ -1,6 +1,6 @@
 -- Marks that pass a test say of a place what all of them say there, where each that was made there passes; and nothing, where none does.
 use Rattle.std.proofs.Common.{◌≡◌, ◌≢◌, ℕ, ◌+◌, ◌==◌, nat_lt, max, Bool, true, false, not, ◌&&◌, ◌||◌, cond, if◌then◌else◌, List, [], ◌∷◌, Some, refl, sym, ap, ◌∙◌, arith}
-use Rattle.std.proofs.lemmas.Bool.{eqb-true, ne_eqb}
+use Rattle.std.proofs.lemmas.Bool.{eqb-true, ne_eqb, and_parts, true≢false}
 use Rattle.std.proofs.lemmas.List.Elements.{All-filter}
 use Rattle.std.specs.List.{filter}
 use Rattle.wm_graph.specs.Parts.{Parts}
@@ -11,14 +11,13 @@ use Rattle.wm_state.specs.Editing.{is_settled_below}
 use Rattle.wm_state.specs.Standing.{IsRealMark, MarksStand, in_cells, marked_at, settled_from}
 use Rattle.wm_state.specs.State.{Durable, Savepoint, Workspace, workspace_of}
 use Rattle.wm_state.proofs.Marking.{AreMarked, SayMarked}
-use Rattle.wm_state.proofs.Tests.{bool_apart, both}
 use Rattle.wm_undone.specs.Restoring.{restored, stays_marked}
 
 -- one more of them
 one_more : (a b d keep : Bool) (i r f : ℕ) → (a ≡ true → b ≡ keep) → f ≡ cond keep r 0 → cond b (max (if a && d then i else 0) f) f ≡ cond keep (max (if a && d then i else 0) r) 0
 one_more true true d true i r f its same = ap (max (if d then i else 0)) same
-one_more true true d false i r f its same = absurd (bool_apart (its refl))
-one_more true false d true i r f its same = absurd (bool_apart (sym (its refl)))
+one_more true true d false i r f its same = absurd (true≢false (its refl))
+one_more true false d true i r f its same = absurd (true≢false (sym (its refl)))
 one_more true false d false i r f its same = same
 one_more false b d keep i r f its same = none b f ∙ same ∙ ap (λ k. cond keep k 0) (sym (none true r))
   where
@@ -55,14 +54,14 @@ settled-filter k keep place its (x ∷ xs) c =
 pub marked_beside : (n low m : ℕ) (xs : List Trace) → m ≢ n → SayMarked xs (filter (stays_marked n low) xs) m
 marked_beside n low m xs away place c =
     marked-filter (stays_marked n low) true m place
-    (λ x is. ap (λ b. not b || nat_lt x.place low) (ne_eqb x.space n (λ same. away (sym (eqb-true x.space m (both (x.space == m) (x.place == place) is).0) ∙ same)))) xs c
+    (λ x is. ap (λ b. not b || nat_lt x.place low) (ne_eqb x.space n (λ same. away (sym (eqb-true x.space m (and_parts (x.space == m) (x.place == place) is).0) ∙ same)))) xs c
 
 -- and its own what is settled in it then
 pub marked_back : (n : ℕ) (k : Savepoint) (w : Workspace) (p : Parts) (s : Durable) → workspace_of s.spaces n ≡ Some w → MarksStand p s → AreMarked (filter (stays_marked n k.place) p.marks) n (restored k w)
 marked_back n k w p s found stand = record {
   same = λ place c.
       let keep = nat_lt place k.place in
-      marked-filter (stays_marked n k.place) keep n place (λ x is. let h = both (x.space == n) (x.place == place) is in goes x.space x.place place h.0 h.1) p.marks c
+      marked-filter (stays_marked n k.place) keep n place (λ x is. let h = and_parts (x.space == n) (x.place == place) is in goes x.space x.place place h.0 h.1) p.marks c
       ∙ ap (λ r. cond keep r 0) (stand.same n w place c found)
       ∙ sym (settled-filter (is_settled_below k.place) keep place (λ x is. ap (λ i. nat_lt i k.place) (eqb-true x.place place is)) w.settled c);
   real = All-filter (is_settled_below k.place) IsRealMark w.settled (stand.real n w found);

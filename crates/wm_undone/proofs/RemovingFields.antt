@@ -1,32 +1,29 @@
 -- A workspace is gone: what is looked up then, and the fields of the records.
-use Rattle.std.proofs.Common.{◌≡◌, ◌≢◌, ℕ, suc, ◌<◌, ◌==◌, nat_le, true, ◌&&◌, List, [], map, length, Option, Some, None, is_some, refl, sym, ap, ◌∙◌, ◌⊎◌, inl, inr, arith}
-use Rattle.std.proofs.lemmas.Bool.{cases_eq, eqb-true}
+use Rattle.std.proofs.Common.{◌≡◌, ◌≢◌, ℕ, suc, ◌==◌, nat_le, true, ◌&&◌, List, [], map, length, Some, None, is_some, refl, sym, ap, ◌∙◌, ◌⊎◌, inl, inr, arith}
+use Rattle.std.proofs.lemmas.Bool.{cases_eq, eqb-true, and_parts}
+use Rattle.std.proofs.lemmas.Option.{same_Some, none-some}
 use Rattle.std.specs.List.{list_all}
 use Rattle.std.specs.Option.{option_map}
 use Rattle.std.specs.Str.{bytes_eq}
+use Rattle.wm_base.proofs.Plain.{some_mapped}
 use Rattle.wm_graph.specs.Parts.{Parts, space_of}
 use Rattle.wm_graph.specs.Rules.{differ, is_space, keep_rules}
 use Rattle.wm_spec.specs.declared.record.counters.Counters.{Counters}
 use Rattle.wm_spec.specs.declared.record.savepoint.Savepoint.{Savepoint as Record}
 use Rattle.wm_spec.specs.declared.record.space.Space.{Space}
 use Rattle.wm_state.specs.State.{Durable, Workspace, savepoints_of, workspace_of}
-use Rattle.wm_state.specs.Standing.{CountersStand, FieldsStand, OnceStand, SavepointsStand, SpaceFields, SpacesStand, by_making, fields_in, fields_of, fields_saved, saved_fields, saved_in}
-use Rattle.wm_state.proofs.Apart.{found-passes, ruled}
+use Rattle.wm_state.specs.Standing.{CountersStand, FieldsStand, OnceStand, SavepointsStand, SpacesStand, by_making, fields_in, fields_of, fields_saved, saved_fields, saved_in}
+use Rattle.wm_state.proofs.Apart.{ruled}
 use Rattle.wm_state.proofs.Frames.{savepoints_of-none}
-use Rattle.wm_state.proofs.Mapped.{all-found}
-use Rattle.wm_state.proofs.Tests.{both, differ_filter}
-use Rattle.wm_undone.specs.Removing.{CanRemove, is_other, without}
+use Rattle.wm_state.proofs.Tests.{differ_filter}
+use Rattle.wm_undone.specs.Removing.{CanRemove, without}
 use Rattle.wm_undone.proofs.RemovingRecords.{filter_other, filter_own, find_other, find_own, one_less, space_away, space_none, thinned}
-
-some_map : {A B : Type 0} (f : A → B) (o : Option A) → is_some (option_map f o) ≡ is_some o
-some_map f None = refl
-some_map f (Some x) = refl
 
 -- no two records of workspaces have one number
 numbers_apart : (p : Parts) → keep_rules p ≡ true → differ (λ (x y : Space). x.number == y.number) p.spaces ≡ true
 numbers_apart p rules =
-    let g = both (nat_le (length p.spaces) 1024 && is_some (space_of p.spaces 0)) _ (ruled p rules).spaces in
-    (both (differ (λ (x y : Space). x.number == y.number) p.spaces) (differ (λ (x y : Space). bytes_eq x.name y.name) p.spaces && list_all (is_space (space_of p.spaces)) p.spaces) g.1).0
+    let g = and_parts (nat_le (length p.spaces) 1024 && is_some (space_of p.spaces 0)) _ (ruled p rules).spaces in
+    (and_parts (differ (λ (x y : Space). x.number == y.number) p.spaces) (differ (λ (x y : Space). bytes_eq x.name y.name) p.spaces && list_all (is_space (space_of p.spaces)) p.spaces) g.1).0
 
 module _ (p : Parts) (s t : Durable) (n : ℕ) (counters : List Counters) (may : CanRemove p n) (rules : keep_rules p ≡ true) (spaces : t.spaces ≡ without n s.spaces) where
   -- ---- workspaces
@@ -41,11 +38,8 @@ module _ (p : Parts) (s t : Durable) (n : ℕ) (counters : List Counters) (may :
   pub found_before : (m : ℕ) (w : Workspace) → workspace_of t.spaces m ≡ Some w → (m ≢ n) × (workspace_of s.spaces m ≡ Some w)
   found_before m w is = (away, sym (found_away m away) ∙ is)
     where
-      none_some : (let nothing : Option Workspace = None in nothing) ≡ Some w → ⊥
-      none_some e = cc
-
       away : m ≢ n
-      away same = none_some (sym found_none ∙ ap (workspace_of t.spaces) (sym same) ∙ is)
+      away same = none-some w (sym found_none ∙ ap (workspace_of t.spaces) (sym same) ∙ is)
 
   -- ---- the fields
 
@@ -64,7 +58,7 @@ module _ (p : Parts) (s t : Durable) (n : ℕ) (counters : List Counters) (may :
     count =
         one_fewer (length (thinned p n counters).spaces) (length (without n s.spaces)) (length p.spaces) (length s.spaces)
         (one_less (λ (r : Space). r.number) n p.spaces (numbers_apart p rules) may.there)
-        (one_less (λ (w : Workspace). w.number) n s.spaces once.numbers (sym (some_map fields_in (workspace_of s.spaces n)) ∙ ap is_some (sym (stand.same n)) ∙ some_map fields_of (space_of p.spaces n) ∙ may.there))
+        (one_less (λ (w : Workspace). w.number) n s.spaces once.numbers (sym (some_mapped fields_in (workspace_of s.spaces n)) ∙ ap is_some (sym (stand.same n)) ∙ some_mapped fields_of (space_of p.spaces n) ∙ may.there))
         once.count
         ∙ ap length (sym spaces);
   }
@@ -101,23 +95,3 @@ module _ (p : Parts) (s t : Durable) (n : ℕ) (counters : List Counters) (may :
   }
 
 -- ---- what is asked, told by the state
-
--- a workspace other than LIVE that is there, and is the parent of none, may go
-pub may_go : (p : Parts) (s : Durable) (n : ℕ) → keep_rules p ≡ true → SpacesStand p s → 0 < n → is_some (workspace_of s.spaces n) ≡ true → list_all (λ (w : Workspace). is_other n w.parent) s.spaces ≡ true → CanRemove p n
-may_go p s n rules stand some there childless = record {
-  some = some;
-  there = sym (some_map fields_of (space_of p.spaces n)) ∙ ap is_some (stand.same n) ∙ some_map fields_in (workspace_of s.spaces n) ∙ there;
-  childless = all-found (λ (r : Space). r.number) (λ (r : Space). is_other n r.parent) p.spaces (numbers_apart p rules) (λ m r found. by_workspace m r (workspace_of s.spaces m) refl (sym (ap (option_map fields_of) found) ∙ stand.same m));
-}
-  where
-    none_some : (f : SpaceFields) → Some f ≡ (let nothing : Option SpaceFields = None in nothing) → ⊥
-    none_some f e = cc
-
-    some_fields : (e f : SpaceFields) → Some e ≡ Some f → e ≡ f
-    some_fields e f h = cc
-
-    by_workspace : (m : ℕ) (r : Space) (o : Option Workspace) → workspace_of s.spaces m ≡ o → Some (fields_of r) ≡ option_map fields_in o → is_other n r.parent ≡ true
-    by_workspace m r None found e = absurd (none_some (fields_of r) e)
-    by_workspace m r (Some w) found e =
-        ap (λ (f : SpaceFields). is_other n f.parent) (some_fields (fields_of r) (fields_in w) e)
-        ∙ (found-passes (λ (v : Workspace). v.number == m) (λ (v : Workspace). is_other n v.parent) s.spaces w found childless).1

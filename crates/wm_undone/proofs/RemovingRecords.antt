@@ -1,6 +1,7 @@
 -- The records without a workspace: what is found among those that stay, and that no version that stays stands under one that goes.
 use Rattle.std.proofs.Common.{◌≡◌, ◌≢◌, ℕ, suc, ◌<◌, ◌≤◌, ◌==◌, nat_lt, Bool, true, false, not, ◌&&◌, ◌||◌, cond, if◌then◌else◌, List, [], ◌∷◌, length, Option, Some, None, is_some, refl, sym, ap, subst, ◌∙◌, ◌⊎◌, inl, inr, arith}
-use Rattle.std.proofs.lemmas.Bool.{cases_eq, eq-eqb, eqb-true, ne_eqb}
+use Rattle.std.proofs.lemmas.Bool.{cases_eq, eq-eqb, eqb-true, ne_eqb, and_parts, lt-ltb, not-true, or_parts, true≢false}
+use Rattle.std.proofs.lemmas.Option.{same_Some, none-some}
 use Rattle.std.specs.Bool.{then_some}
 use Rattle.std.specs.List.{filter, find, list_all, list_any}
 use Rattle.std.specs.Option.{IfSome, option_map, option_map_or, option_or}
@@ -18,8 +19,7 @@ use Rattle.wm_tree.proofs.Paths.{version_in-above}
 use Rattle.wm_state.specs.Standing.{covers_at, held_by, newest_first, node_of, saved_as, stored_at}
 use Rattle.wm_state.proofs.Apart.{Ruled, RuledVersions, found-passes, ruled, ruled_versions}
 use Rattle.wm_state.proofs.FirstIn.{IsOf}
-use Rattle.wm_state.proofs.Newest.{Descend, Descend-newest, below-apart, numbers_differ, version_in-newest}
-use Rattle.wm_state.proofs.Tests.{bool_apart, both, either_false, not_true}
+use Rattle.wm_state.proofs.Newest.{Descend, Descend-newest, below-apart, numbers_differ, version_in-newest, AllBelow-less}
 use Rattle.wm_forked.proofs.KeepBorn.{version_numbered}
 use Rattle.wm_undone.specs.Removing.{is_other, is_others, parts_without}
 use Rattle.wm_undone.proofs.RemovingSeen.{IsOutside, StoredOut}
@@ -35,7 +35,7 @@ pub other_of : (n m : ℕ) → m ≢ n → is_other n m ≡ true
 other_of n m away = ap not (ne_eqb m n away)
 
 pub not_other : (n m : ℕ) → is_other n m ≡ true → m ≢ n
-not_other n m e same = bool_apart (sym (eq-eqb m n same) ∙ not_true (m == n) e)
+not_other n m e same = true≢false (sym (eq-eqb m n same) ∙ not-true (m == n) e)
 
 -- what is of another number is found as before
 pub find_other : {A : Type 0} (key : A → ℕ) (n m : ℕ) (P : A → Bool) → ((y : A) → P y ≡ true → key y ≡ m) → m ≢ n → (xs : List A) → find P (filter (λ y. is_other n (key y)) xs) ≡ find P xs
@@ -62,29 +62,26 @@ filter_own {A = A} key n P of (x ∷ xs) = by_key (cases_eq (key x) n) (filter_o
 
 -- where no two have one number, and one has it, one goes
 pub one_less : {A : Type 0} (key : A → ℕ) (n : ℕ) (xs : List A) → differ (λ x y. key x == key y) xs ≡ true → is_some (find (λ y. key y == n) xs) ≡ true → suc (length (filter (λ y. is_other n (key y)) xs)) ≡ length xs
-one_less key n [] apart there = absurd (bool_apart (sym there))
-one_less {A = A} key n (x ∷ xs) apart there = by_key (cases_eq (key x) n) (both (not (list_any (λ y. key x == key y) xs)) (differ (λ y z. key y == key z) xs) apart) (one_less key n xs)
+one_less key n [] apart there = absurd (true≢false (sym there))
+one_less {A = A} key n (x ∷ xs) apart there = by_key (cases_eq (key x) n) (and_parts (not (list_any (λ y. key x == key y) xs)) (differ (λ y z. key y == key z) xs) apart) (one_less key n xs)
   where
     all_stay : (ys : List A) → list_any (λ y. key x == key y) ys ≡ false → key x ≡ n → filter (λ y. is_other n (key y)) ys ≡ ys
     all_stay [] none same = refl
     all_stay (y ∷ ys) none same =
-        let h = either_false (key x == key y) (list_any (λ z. key x == key z) ys) none in
-        rw (ne_eqb (key y) n (λ here. bool_apart (sym (eq-eqb (key x) (key y) (same ∙ sym here)) ∙ h.0))) (ap (λ zs. y ∷ zs) (all_stay ys h.1 same))
+        let h = or_parts (key x == key y) (list_any (λ z. key x == key z) ys) none in
+        rw (ne_eqb (key y) n (λ here. true≢false (sym (eq-eqb (key x) (key y) (same ∙ sym here)) ∙ h.0))) (ap (λ zs. y ∷ zs) (all_stay ys h.1 same))
 
     by_key : (key x ≡ n) ⊎ (key x ≢ n) → (not (list_any (λ y. key x == key y) xs) ≡ true) × (differ (λ y z. key y == key z) xs ≡ true)
         → (differ (λ y z. key y == key z) xs ≡ true → is_some (find (λ y. key y == n) xs) ≡ true → suc (length (filter (λ y. is_other n (key y)) xs)) ≡ length xs)
         → suc (length (filter (λ y. is_other n (key y)) (x ∷ xs))) ≡ length (x ∷ xs)
-    by_key (inl same) h rest = rw (eq-eqb _ _ same) (ap (λ ys. suc (length ys)) (all_stay xs (not_true (list_any (λ y. key x == key y) xs) h.0) same))
+    by_key (inl same) h rest = rw (eq-eqb _ _ same) (ap (λ ys. suc (length ys)) (all_stay xs (not-true (list_any (λ y. key x == key y) xs) h.0) same))
     by_key (inr away) h rest = rw (ne_eqb _ _ away) (ap suc (rest h.1 (sym (ap (λ b. is_some (cond b (Some x) (find (λ y. key y == n) xs))) (ne_eqb _ _ away)) ∙ there)))
 
 -- ---- the newest version first
 
 grow_first : (x : Node) (ns : List Node) → AllBelow x.number ns → grow x ns ≡ x ∷ ns
 grow_first x [] below = refl
-grow_first x (y ∷ ys) below = rw (less y.number x.number below.0) refl
-  where
-    less : (i j : ℕ) → i < j → nat_lt i j ≡ true
-    less i j lt = grind (arith, lt)
+grow_first x (y ∷ ys) below = rw (lt-ltb y.number x.number below.0) refl
 
 thin_below : (n m : ℕ) (ns : List Node) → AllBelow m ns → AllBelow m (filter (is_outside n) ns)
 thin_below n m [] below = tt
@@ -93,10 +90,6 @@ thin_below n m (y ∷ ys) below = by_test (y.space == n) (thin_below n m ys belo
     by_test : (b : Bool) → AllBelow m (filter (is_outside n) ys) → AllBelow m (cond (not b) (y ∷ filter (is_outside n) ys) (filter (is_outside n) ys))
     by_test true rest = rest
     by_test false rest = (below.0, rest)
-
-below_less : (m k : ℕ) (ns : List Node) → m < k → AllBelow m ns → AllBelow k ns
-below_less m k [] lt below = tt
-below_less m k (x ∷ ns) lt below = (omega (arith, lt, below.0), below_less m k ns lt below.1)
 
 grow-thin : (n : ℕ) (x : Node) (ns : List Node) → Descend ns → filter (is_outside n) (grow x ns) ≡ cond (is_outside n x) (grow x (filter (is_outside n) ns)) (filter (is_outside n) ns)
 grow-thin n x [] down = refl
@@ -109,7 +102,7 @@ grow-thin n x (y ∷ ys) down = by_number (nat_lt y.number x.number) refl (y.spa
         → filter (is_outside n) (grow x ys) ≡ cond (is_outside n x) (grow x (filter (is_outside n) ys)) (filter (is_outside n) ys)
         → filter (is_outside n) (cond a (x ∷ y ∷ ys) (y ∷ grow x ys)) ≡ cond (not d) (grow x (cond (not b) (y ∷ filter (is_outside n) ys) (filter (is_outside n) ys))) (cond (not b) (y ∷ filter (is_outside n) ys) (filter (is_outside n) ys))
     by_number true e true f true g rest = rw (f, g) refl
-    by_number true e true f false g rest = rw (f, g) (sym (grow_first x (filter (is_outside n) ys) (thin_below n x.number ys (below_less y.number x.number ys (lt_of e) down.0))))
+    by_number true e true f false g rest = rw (f, g) (sym (grow_first x (filter (is_outside n) ys) (thin_below n x.number ys (AllBelow-less y.number x.number ys (lt_of e) down.0))))
     by_number true e false f true g rest = rw (f, g) refl
     by_number true e false f false g rest = rw (f, g, e) refl
     by_number false e true f true g rest = rw f (rest ∙ ap (λ b. cond (not b) (grow x (filter (is_outside n) ys)) (filter (is_outside n) ys)) g)
@@ -120,7 +113,7 @@ grow-thin n x (y ∷ ys) down = by_number (nat_lt y.number x.number) refl (y.spa
 pub newest-thin : (n : ℕ) (vs : List Version) → numbers_differ vs → newest_first (filter (λ (v : Version). is_other n v.space) vs) ≡ filter (is_outside n) (newest_first vs)
 newest-thin n [] e = refl
 newest-thin n (v ∷ vs) e =
-    let h = both (not (list_any (λ (w : Version). v.number == w.number) vs)) (differ (λ (v w : Version). v.number == w.number) vs) e in
+    let h = and_parts (not (list_any (λ (w : Version). v.number == w.number) vs)) (differ (λ (v w : Version). v.number == w.number) vs) e in
     by_test (v.space == n) (newest-thin n vs h.1) ∙ sym (grow-thin n (node_of v) (newest_first vs) (Descend-newest vs h.1))
   where
     by_test : (b : Bool) → newest_first (filter (λ (w : Version). is_other n w.space) vs) ≡ filter (is_outside n) (newest_first vs)
@@ -136,7 +129,7 @@ stored-thin versions n v c out (x ∷ xs) = by_test (is_version_of (version_of v
   where
     by_test : (b : Bool) → is_version_of (version_of versions) x.version n ≡ b → stored_at (filter (is_others versions n) xs) v c ≡ stored_at xs v c
         → stored_at (cond (not b) (x ∷ filter (is_others versions n) xs) (filter (is_others versions n) xs)) v c ≡ stored_at (x ∷ xs) v c
-    by_test true e rest = rw (ne_eqb x.version v (λ same. bool_apart (sym e ∙ ap (λ k. is_version_of (version_of versions) k n) same ∙ out))) rest
+    by_test true e rest = rw (ne_eqb x.version v (λ same. true≢false (sym e ∙ ap (λ k. is_version_of (version_of versions) k n) same ∙ out))) rest
     by_test false e rest = ap (option_or (then_some (covers_at x v c) (held_by x))) rest
 
 -- what holds of each version that is found holds of each of the list
@@ -177,23 +170,15 @@ space_away p n counters m away = find_other (λ (r : Space). r.number) n m (λ (
 
 pub saved_away : (p : Parts) (n : ℕ) (counters : List Counters) (m making : ℕ) → m ≢ n → saved_as (thinned p n counters) m making ≡ saved_as p m making
 saved_away p n counters m making away =
-    find_other (λ (x : Record). x.space) n m (λ (x : Record). (x.space == m) && (x.making == making)) (λ x e. eqb-true x.space m (both (x.space == m) (x.making == making) e).0) away p.savepoints
+    find_other (λ (x : Record). x.space) n m (λ (x : Record). (x.space == m) && (x.making == making)) (λ x e. eqb-true x.space m (and_parts (x.space == m) (x.making == making) e).0) away p.savepoints
 
 -- a version is of one workspace
 pub one_of : (p : Parts) (k a b : ℕ) → is_version_of (version_of p.versions) k a ≡ true → is_version_of (version_of p.versions) k b ≡ true → a ≡ b
 one_of p k a b e f = by_version (version_of p.versions k) e f
   where
     by_version : (o : Option Version) → option_map_or (λ (v : Version). v.space == a) o false ≡ true → option_map_or (λ (v : Version). v.space == b) o false ≡ true → a ≡ b
-    by_version None g h = absurd (bool_apart (sym g))
+    by_version None g h = absurd (true≢false (sym g))
     by_version (Some v) g h = sym (eqb-true v.space a g) ∙ eqb-true v.space b h
-
--- a version of another workspace is none of this
-pub none_of : (p : Parts) (n k m : ℕ) → m ≢ n → is_version_of (version_of p.versions) k m ≡ true → is_version_of (version_of p.versions) k n ≡ false
-none_of p n k m away is = by_test (is_version_of (version_of p.versions) k n) refl
-  where
-    by_test : (b : Bool) → is_version_of (version_of p.versions) k n ≡ b → b ≡ false
-    by_test true e = absurd (away (one_of p k m n is e))
-    by_test false e = refl
 
 -- one that is among these, and is one of another workspace, is none of this
 pub outside_of : (n m : ℕ) (nodes : List Node) (v : ℕ) → m ≢ n → IsOf nodes v m → IsOutside n nodes v
@@ -228,21 +213,15 @@ module _ (p : Parts) (n : ℕ) (childless : list_all (λ (r : Space). is_other n
 
       by_version : (o : Option Version) → option_map_or (λ (w : Version). w.space == n) o false ≡ false → is_out (option_map node_of o)
       by_version None f = tt
-      by_version (Some w) f = λ same. bool_apart (sym (eq-eqb w.space n same) ∙ f)
+      by_version (Some w) f = λ same. true≢false (sym (eq-eqb w.space n same) ∙ f)
 
   -- and a node of another is one of its versions
   recorded : (v : ℕ) (y : Node) → version_in (newest_first p.versions) v ≡ Some y → (w : Version) × (version_of p.versions v ≡ Some w) × (node_of w ≡ y)
   recorded v y found = by_version (version_of p.versions v) refl (sym (version_in-newest p.versions h.numbers v) ∙ found)
     where
-      some_node : (a b : Node) → Some a ≡ Some b → a ≡ b
-      some_node a b e = cc
-
-      none_node : (let nothing : Option Node = None in nothing) ≡ Some y → ⊥
-      none_node e = cc
-
       by_version : (o : Option Version) → version_of p.versions v ≡ o → option_map node_of o ≡ Some y → (w : Version) × (version_of p.versions v ≡ Some w) × (node_of w ≡ y)
-      by_version None is e = absurd (none_node e)
-      by_version (Some w) is e = (w, is, some_node (node_of w) y e)
+      by_version None is e = absurd (none-some y e)
+      by_version (Some w) is e = (w, is, same_Some (node_of w) y e)
 
   -- the parent of a version of another workspace is none of the workspace's
   under_none : (v : ℕ) (w : Version) → version_of p.versions v ≡ Some w → w.space ≢ n → is_version_of (version_of p.versions) w.parent n ≡ false
@@ -255,17 +234,17 @@ module _ (p : Parts) (n : ℕ) (childless : list_all (λ (r : Space). is_other n
           → is_version_of (version_of p.versions) w.parent s.parent ≡ b → (a || b) ≡ true → ⊥
       by_parent is s there true b e f some = away (one_of p w.parent w.space n e is)
       by_parent is s there false true e f some = parent_other w.space s there (one_of p w.parent s.parent n f is)
-      by_parent is s there false false e f some = bool_apart (sym some)
+      by_parent is s there false false e f some = true≢false (sym some)
 
       by_space : is_version_of (version_of p.versions) w.parent n ≡ true → (o : Option Space) → space_of p.spaces w.space ≡ o
           → option_map_or (λ (s : Space). if w.parent == 0 then w.number == 1 else stands_under (version_of p.versions) w s) o false ≡ true → ⊥
-      by_space is None there e = bool_apart (sym e)
+      by_space is None there e = true≢false (sym e)
       by_space is (Some s) there e =
           by_parent is s there (is_version_of (version_of p.versions) w.parent w.space) (is_version_of (version_of p.versions) w.parent s.parent) refl refl
-          (both (nat_lt w.parent w.number) _ (sym (ap (λ b. if b then w.number == 1 else stands_under (version_of p.versions) w s) (version_numbered p r.counters.next_version w.parent n r.versions is)) ∙ e)).1
+          (and_parts (nat_lt w.parent w.number) _ (sym (ap (λ b. if b then w.number == 1 else stands_under (version_of p.versions) w s) (version_numbered p r.counters.next_version w.parent n r.versions is)) ∙ e)).1
 
       by_test : (b : Bool) → is_version_of (version_of p.versions) w.parent n ≡ b → b ≡ false
-      by_test true is = absurd (by_space is (space_of p.spaces w.space) refl (both (nat_lt w.number r.counters.next_version) _ passes).1)
+      by_test true is = absurd (by_space is (space_of p.spaces w.space) refl (and_parts (nat_lt w.number r.counters.next_version) _ passes).1)
       by_test false is = refl
 
   pub none_apart : NoneUnder n (newest_first p.versions)

@@ -1,10 +1,11 @@
 -- The records without a workspace stand for the state without it.
-use Rattle.std.proofs.Common.{◌≡◌, ◌≢◌, ℕ, ◌==◌, nat_lt, Bool, true, false, not, ◌&&◌, ◌||◌, List, [], Option, Some, None, refl, sym, ap, subst, ◌∙◌, ◌⊎◌, inl, inr, arith}
-use Rattle.std.proofs.lemmas.Bool.{cases_eq, eqb-true}
+use Rattle.std.proofs.Common.{◌≡◌, ◌≢◌, ℕ, ◌==◌, nat_lt, Bool, true, false, not, ◌&&◌, ◌||◌, List, [], Option, Some, None, refl, sym, ap, subst, ◌∙◌, ◌⊎◌, inl, inr}
+use Rattle.std.proofs.lemmas.Bool.{cases_eq, eqb-true, and_parts}
 use Rattle.std.proofs.lemmas.List.Elements.{All-nil, filter_agree}
 use Rattle.std.specs.Bool.{then_some}
 use Rattle.std.specs.List.{filter, slice_get}
 use Rattle.std.specs.Option.{option_and_then, option_map}
+use Rattle.wm_base.proofs.Plain.{nat_lt-zero}
 use Rattle.wm_graph.specs.Parts.{Parts}
 use Rattle.wm_graph.specs.Rules.{keep_rules}
 use Rattle.wm_spec.specs.Lists.{Entry}
@@ -21,7 +22,6 @@ use Rattle.wm_state.proofs.Logging.{HaveRows, log_of-none, log_of-same, rows-kep
 use Rattle.wm_state.proofs.Marking.{MarksStand-kept}
 use Rattle.wm_state.proofs.Ready.{KeepReady, KeepReady-same}
 use Rattle.wm_state.proofs.Staying.{AreReal-same, EntriesStand-kept, entries_real, turns_of-none}
-use Rattle.wm_state.proofs.Tests.{both}
 use Rattle.wm_undone.specs.Removing.{CanRemove, Thinned, is_other, without}
 use Rattle.wm_undone.specs.Restoring.{stays_touched}
 use Rattle.wm_undone.proofs.Marked.{marked-filter}
@@ -35,11 +35,8 @@ tells_others : (n m below : ℕ) (log : List Entry) (xs : List Trace) → m ≢ 
 tells_others n m below log xs away tell =
     subst (λ ys. TouchesTell ys m below log) (filter_agree (stays_touched n 0 0) (λ (x : Trace). is_other n x.space) (λ x. none_left (x.space == n) x.place x.position) xs) (tells_beside n 0 0 m below log xs away tell)
   where
-    no_less : (i : ℕ) → nat_lt i 0 ≡ false
-    no_less i = grind arith
-
     none_left : (b : Bool) (place position : ℕ) → (not b || (nat_lt place 0 && nat_lt position 0)) ≡ not b
-    none_left true place position = rw (no_less place) refl
+    none_left true place position = rw (nat_lt-zero place) refl
     none_left false place position = refl
 
 -- the entry at a position, where its table keeps its history
@@ -62,7 +59,7 @@ module _ (p : Parts) (s t : Durable) (n : ℕ) (counters : List Counters) (may :
   TurnsStand-removed stand = record { counted = λ m w some is. stand.counted m w some (was m w is).1; same = λ m number. by_number m number (cases_eq m n) }
     where
       its : (m number : ℕ) (x : TurnRecord) → ((x.space == m) && (x.rebase == number)) ≡ true → x.space ≡ m
-      its m number x e = eqb-true x.space m (both (x.space == m) (x.rebase == number) e).0
+      its m number x e = eqb-true x.space m (and_parts (x.space == m) (x.rebase == number) e).0
 
       turns_of-same : (ws vs : List Workspace) (m : ℕ) → workspace_of ws m ≡ workspace_of vs m → turns_of ws m ≡ turns_of vs m
       turns_of-same ws vs m same = rw same refl
@@ -92,7 +89,7 @@ module _ (p : Parts) (s t : Durable) (n : ℕ) (counters : List Counters) (may :
       inl (
         record { old = w; is = h.1; same = refl },
         λ place c.
-            marked-filter (λ (x : Trace). is_other n x.space) true m place (λ x at. other_of n x.space (λ same. h.0 (sym (eqb-true x.space m (both (x.space == m) (x.place == place) at).0) ∙ same))) p.marks c,
+            marked-filter (λ (x : Trace). is_other n x.space) true m place (λ x at. other_of n x.space (λ same. h.0 (sym (eqb-true x.space m (and_parts (x.space == m) (x.place == place) at).0) ∙ same))) p.marks c,
       ))
       stand
 
@@ -111,7 +108,7 @@ module _ (p : Parts) (s t : Durable) (n : ℕ) (counters : List Counters) (may :
   HistsStand-removed stand = record { same = λ m position. by_number m position (cases_eq m n) }
     where
       its : (m position : ℕ) (x : Hist) → ((x.space == m) && (x.position == position)) ≡ true → x.space ≡ m
-      its m position x e = eqb-true x.space m (both (x.space == m) (x.position == position) e).0
+      its m position x e = eqb-true x.space m (and_parts (x.space == m) (x.position == position) e).0
 
       by_number : (m position : ℕ) → (m ≡ n) ⊎ (m ≢ n) → option_map logged (hist_at (thinned p n counters).hists m position) ≡ logged_in t.tables (slice_get (log_of t.spaces m) position)
       by_number m position (inl here) =

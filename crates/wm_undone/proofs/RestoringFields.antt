@@ -1,8 +1,9 @@
 -- A workspace went back to a savepoint: what is looked up then, and the fields of the records. RestoringNamed and RestoringStands have
 -- the clauses on what is held.
-use Rattle.std.proofs.Common.{◌≡◌, ◌≢◌, ℕ, ◌≤◌, ◌==◌, nat_lt, nat_le, true, not, ◌&&◌, ◌||◌, cond, List, map, length, Option, Some, None, refl, sym, ap, ◌∙◌, ◌⊎◌, inl, inr, arith}
-use Rattle.std.proofs.lemmas.Bool.{cases_eq, eq-eqb, eqb-true, ne_eqb}
+use Rattle.std.proofs.Common.{◌≡◌, ◌≢◌, ℕ, ◌≤◌, ◌==◌, nat_lt, nat_le, true, not, ◌&&◌, ◌||◌, cond, List, map, length, Some, refl, sym, ap, ◌∙◌, ◌⊎◌, inl, inr, arith}
+use Rattle.std.proofs.lemmas.Bool.{cases_eq, eq-eqb, eqb-true, ne_eqb, and_parts}
 use Rattle.std.proofs.lemmas.List.{length-take-le}
+use Rattle.std.proofs.lemmas.Option.{same_Some, none-some}
 use Rattle.std.specs.List.{filter, find}
 use Rattle.std.specs.Option.{option_map}
 use Rattle.wm_graph.specs.Parts.{Parts, space_of}
@@ -17,9 +18,9 @@ use Rattle.wm_state.proofs.Climbing.{recorded_of}
 use Rattle.wm_state.proofs.Frames.{OnceStand-changed, savepoints_of-found}
 use Rattle.wm_state.proofs.Making.{differ-making, same_making}
 use Rattle.wm_state.proofs.Mapped.{differ-alike}
-use Rattle.wm_state.proofs.Named.{one_space, ruled_savepoints, saved_space, saved_there}
+use Rattle.wm_state.proofs.Named.{ruled_savepoints, saved_space, saved_there}
 use Rattle.wm_state.proofs.SavedAs.{made_some_there}
-use Rattle.wm_state.proofs.Tests.{both, differ_filter}
+use Rattle.wm_state.proofs.Tests.{differ_filter}
 use Rattle.wm_forked.proofs.Saving.{WasChanged, was_changed}
 use Rattle.wm_undone.specs.Restoring.{GoesBack, RestoredTo, restored, restored_to, stays_at, stays_saved}
 use Rattle.wm_undone.proofs.RestoringLists.{filter-alike, filter-left, filter-under, found-left, making-filter}
@@ -75,13 +76,10 @@ module _ (p q : Parts) (s t : Durable) (n number making : ℕ) (a : Space) (w : 
   pub its_space : x.space ≡ n
   its_space = saved_space p n making x g.recorded
 
-  some_savepoint : (i j : Savepoint) → Some i ≡ Some j → i ≡ j
-  some_savepoint i j e = cc
-
   pub its_fields : saved_fields x ≡ fields_saved k
   its_fields =
       let y = made_some_there p s n w rules kept g.found making x g.recorded in
-      y.2.fields ∙ ap fields_saved (some_savepoint y.0 k (sym y.1 ∙ g.made))
+      y.2.fields ∙ ap fields_saved (same_Some y.0 k (sym y.1 ∙ g.made))
 
   pub its_place : x.place ≡ k.place
   its_place = ap (λ (f : SavepointFields). f.place) its_fields
@@ -91,13 +89,13 @@ module _ (p q : Parts) (s t : Durable) (n number making : ℕ) (a : Space) (w : 
 
   -- the record of the workspace
   pub recorded_here : fields_of a ≡ fields_in w
-  recorded_here = let r = recorded_of p s there n w g.found in ap fields_of (one_space a r.space (sym v.old ∙ r.found)) ∙ r.fields
+  recorded_here = let r = recorded_of p s there n w g.found in ap fields_of (same_Some a r.space (sym v.old ∙ r.found)) ∙ r.fields
 
   -- the log of the savepoint is no longer, and its place was given
   pub log_within : k.log_length ≤ length w.lists.log
   log_within =
       let y = saved_there p rules n making x g.recorded in
-      le x.log_length y.space.log_length k.log_length (length w.lists.log) y.log its_log (ap (λ (o : Space). o.log_length) (one_space y.space a (sym y.found ∙ v.old)) ∙ ap (λ (f : SpaceFields). f.log_length) recorded_here)
+      le x.log_length y.space.log_length k.log_length (length w.lists.log) y.log its_log (ap (λ (o : Space). o.log_length) (same_Some y.space a (sym y.found ∙ v.old)) ∙ ap (λ (f : SpaceFields). f.log_length) recorded_here)
     where
       le : (i j l m : ℕ) → nat_le i j ≡ true → i ≡ l → j ≡ m → l ≤ m
       le i j l m e f h = grind (arith, e, f, h)
@@ -105,7 +103,7 @@ module _ (p q : Parts) (s t : Durable) (n number making : ℕ) (a : Space) (w : 
   pub place_within : k.place ≤ w.next_place
   place_within =
       let y = saved_there p rules n making x g.recorded in
-      le x.place y.space.next_place k.place w.next_place y.place its_place (ap (λ (o : Space). o.next_place) (one_space y.space a (sym y.found ∙ v.old)) ∙ ap (λ (f : SpaceFields). f.next_place) recorded_here)
+      le x.place y.space.next_place k.place w.next_place y.place its_place (ap (λ (o : Space). o.next_place) (same_Some y.space a (sym y.found ∙ v.old)) ∙ ap (λ (f : SpaceFields). f.next_place) recorded_here)
     where
       le : (i j l m : ℕ) → nat_lt i j ≡ true → i ≡ l → j ≡ m → l ≤ m
       le i j l m e f h = grind (arith, e, f, h)
@@ -128,12 +126,9 @@ module _ (p q : Parts) (s t : Durable) (n number making : ℕ) (a : Space) (w : 
   pub before : (m : ℕ) (new : Workspace) → workspace_of t.spaces m ≡ Some new → WasRestored n k s.spaces m new
   before m new is = was_restored n k s.spaces m new (ap (λ ws. workspace_of ws m) (sym spaces) ∙ is)
 
-  some_one : (i j : Workspace) → Some i ≡ Some j → i ≡ j
-  some_one i j e = cc
-
   -- the one that went back is the one
   pub old_here : (m : ℕ) (old : Workspace) → workspace_of s.spaces m ≡ Some old → m ≡ n → old ≡ w
-  old_here m old is here = some_one old w (sym is ∙ ap (workspace_of s.spaces) here ∙ g.found)
+  old_here m old is here = same_Some old w (sym is ∙ ap (workspace_of s.spaces) here ∙ g.found)
 
   -- ---- savepoints
 
@@ -160,7 +155,7 @@ module _ (p q : Parts) (s t : Durable) (n number making : ℕ) (a : Space) (w : 
       (ap (λ xs. find (λ (z : Record). (z.space == m) && (z.making == at)) xs) (sym v.savepoints) ∙ saved)).0
     where
       made_at : (z : Record) → ((z.space == m) && (z.making == at)) ≡ true → z.making ≡ at
-      made_at z is = eqb-true z.making at (both (z.space == m) (z.making == at) is).1
+      made_at z is = eqb-true z.making at (and_parts (z.space == m) (z.making == at) is).1
 
   -- the records of its savepoints that stay, and those of every other workspace
   saved_in-here : saved_in q n ≡ filter (λ (y : Record). nat_le y.place x.place && nat_le y.log_length x.log_length) (saved_in p n)
@@ -221,30 +216,3 @@ FieldsStand-restored p q s t n number making a w k x v g rules st spaces tables 
   once = OnceStand-changed p q s t n (restored k) (λ o. refl) spaces v.count st.once;
   savepoints = SavepointsStand-restored p q s t n number making a w k x v g rules st.spaces st.savepoints spaces;
 }
-
--- ---- what is asked, told by records
-
--- where the record of a savepoint has the rebases of its workspace's record, the workspace may go back to it
-pub goes_back : (p : Parts) (s : Durable) (n making : ℕ) (a : Space) (x : Record) → keep_rules p ≡ true → SpacesStand p s → SavepointsStand p s → space_of p.spaces n ≡ Some a → saved_as p n making ≡ Some x → x.rebases ≡ a.rebases
-    → (w : Workspace) × (k : Savepoint) × GoesBack p s n making w k x
-goes_back p s n making a x rules there kept found recorded based = by_workspace (workspace_of s.spaces n) refl (sym (there.same n) ∙ ap (option_map fields_of) found)
-  where
-    none_some : (f : SpaceFields) → (let nothing : Option SpaceFields = None in nothing) ≡ Some f → ⊥
-    none_some f e = cc
-
-    some_fields : (e f : SpaceFields) → Some e ≡ Some f → e ≡ f
-    some_fields e f h = cc
-
-    by_workspace : (o : Option Workspace) → workspace_of s.spaces n ≡ o → option_map fields_in o ≡ Some (fields_of a) → (w : Workspace) × (k : Savepoint) × GoesBack p s n making w k x
-    by_workspace None is e = absurd (none_some (fields_of a) e)
-    by_workspace (Some w) is e =
-        let y = made_some_there p s n w rules kept is making x recorded in (
-          w,
-          y.0,
-          record {
-            found = is;
-            made = y.1;
-            recorded = recorded;
-            based = ap (λ (f : SavepointFields). f.rebases) (sym y.2.fields) ∙ based ∙ ap (λ (f : SpaceFields). f.rebases) (sym (some_fields (fields_in w) (fields_of a) e));
-          },
-        )

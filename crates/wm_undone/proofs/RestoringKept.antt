@@ -1,9 +1,11 @@
 -- The records with a workspace as it was at a savepoint keep every rule, and stand for the state that was gone back to.
-use Rattle.std.proofs.Common.{◌≡◌, ◌≢◌, ℕ, ◌+◌, ◌≤◌, ◌^◌, ◌==◌, nat_lt, nat_le, Bool, true, false, ◌&&◌, ◌||◌, if◌then◌else◌, List, [], ◌∷◌, ◌++◌, length, Some, is_some, refl, sym, ap, ◌∙◌, ◌⊎◌, inl, inr, length-append, arith}
-use Rattle.std.proofs.lemmas.Bool.{cases_eq, eq-eqb}
+use Rattle.std.proofs.Common.{◌≡◌, ◌≢◌, ℕ, ◌+◌, ◌≤◌, ◌^◌, ◌==◌, nat_lt, nat_le, Bool, true, false, ◌&&◌, if◌then◌else◌, List, [], ◌∷◌, ◌++◌, length, Some, is_some, refl, sym, ap, ◌∙◌, ◌⊎◌, inl, inr, length-append}
+use Rattle.std.proofs.lemmas.Bool.{cases_eq, eq-eqb, and_from, and_parts, le-leb, or_left, true≢false}
+use Rattle.std.proofs.lemmas.Option.{same_Some}
 use Rattle.std.specs.List.{list_all, filter}
 use Rattle.std.specs.Option.{option_map_or}
 use Rattle.std.specs.Str.{bytes_eq}
+use Rattle.wm_base.proofs.Plain.{nat_le-itself, nat_le-trans, nat_lt-apart, nat_lt-next}
 use Rattle.wm_graph.specs.Parts.{Parts, has_version, space_of, version_of}
 use Rattle.wm_graph.specs.Rules.{keep_rules, are_counters, are_hists, are_locks, are_pieces, are_rows, are_savepoints, are_spaces, are_versions, differ, has_few, has_versions, is_base_of, is_placed, is_short, is_space, is_version, is_version_of, stands_under}
 use Rattle.wm_spec.specs.declared.record.counters.Counters.{Counters}
@@ -14,15 +16,14 @@ use Rattle.wm_state.specs.State.{Durable, Workspace, Savepoint, with_space}
 use Rattle.wm_state.specs.Standing.{CountersStand, FieldsStand, Stands, latest, newest_first, node_of, saved_as}
 use Rattle.wm_state.specs.Effects.{Forked}
 use Rattle.wm_state.proofs.Apart.{Ruled, keeps_all, ruled, ruled_versions}
-use Rattle.wm_state.proofs.Growing.{below-next, forked, forked_of, found-below, same_counters}
-use Rattle.wm_state.proofs.Keeping.{KeepRows-same, KeepTables-same, KeepVersions, KeepVersions-push, are_pieces-kept, is_version_of-kept, le_itself, le_next, le_of}
+use Rattle.wm_state.proofs.Growing.{below-next, forked, forked_of, found-below, same_counters, newest-push, has_push}
+use Rattle.wm_state.proofs.Keeping.{KeepRows-same, KeepTables-same, KeepVersions, KeepVersions-push, are_pieces-kept, is_version_of-kept, le_next}
 use Rattle.wm_state.proofs.KeepingTurns.{turned-swap}
-use Rattle.wm_state.proofs.Named.{SavedThere, one_space, ruled_savepoints, saved_there, version_there}
+use Rattle.wm_state.proofs.Named.{SavedThere, ruled_savepoints, saved_there, version_there}
 use Rattle.wm_state.proofs.Respaced.{space_elsewhere, space_here}
-use Rattle.wm_state.proofs.Tests.{all_if, all_middle, all_push, all_swap, and_true, bool_apart, both, differ_push, differ_swap, none_if, some_swap}
+use Rattle.wm_state.proofs.Tests.{all_if, all_middle, all_push, all_swap, differ_push, differ_swap, none_if, some_swap}
 use Rattle.wm_forked.proofs.KeepBorn.{version_numbered}
-use Rattle.wm_forked.proofs.KeptSpaces.{has_push, has_versions-kept}
-use Rattle.wm_forked.proofs.Sprouting.{newest-behind}
+use Rattle.wm_forked.proofs.KeptSpaces.{has_versions-kept}
 use Rattle.wm_undone.specs.Restoring.{GoesBack, RestoredTo, restored, restored_to, stays_logged, stays_marked, stays_saved, stays_touched}
 use Rattle.wm_undone.proofs.RestoringFields.{FieldsStand-restored}
 use Rattle.wm_undone.proofs.RestoringRules.{KeepBack, SpaceBack, base_back, hists_back, locks_back, marks_back, saves_back, touches_back, turns_back, version_back}
@@ -62,17 +63,17 @@ spaces_back : (front back : List Space) (a : Space) (x : Record) → nat_le x.lo
 spaces_back front back a x log e =
     let old = front ++ a ∷ back in
     let new = front ++ restored_to x a ∷ back in
-    let first = both (nat_le (length old) 1024 && is_some (space_of old 0)) _ e in
-    let sized = both (nat_le (length old) 1024) (is_some (space_of old 0)) first.0 in
-    let numbers = both (differ (λ (s t : Space). s.number == t.number) old) _ first.1 in
-    let names = both (differ (λ (s t : Space). bytes_eq s.name t.name) old) (list_all (is_space (space_of old)) old) numbers.1 in
-    and_true (nat_le (length new) 1024 && is_some (space_of new 0)) _
-    (and_true (nat_le (length new) 1024) (is_some (space_of new 0))
+    let first = and_parts (nat_le (length old) 1024 && is_some (space_of old 0)) _ e in
+    let sized = and_parts (nat_le (length old) 1024) (is_some (space_of old 0)) first.0 in
+    let numbers = and_parts (differ (λ (s t : Space). s.number == t.number) old) _ first.1 in
+    let names = and_parts (differ (λ (s t : Space). bytes_eq s.name t.name) old) (list_all (is_space (space_of old)) old) numbers.1 in
+    and_from (nat_le (length new) 1024 && is_some (space_of new 0)) _
+    (and_from (nat_le (length new) 1024) (is_some (space_of new 0))
     (ap (λ n. nat_le n 1024) (length-append front (restored_to x a ∷ back) ∙ sym (length-append front (a ∷ back))) ∙ sized.0)
     (some_swap (λ (s : Space). s.number == 0) a (restored_to x a) refl front back ∙ sized.1))
-    (and_true (differ (λ (s t : Space). s.number == t.number) new) _
+    (and_from (differ (λ (s t : Space). s.number == t.number) new) _
     (differ_swap (λ (s t : Space). s.number == t.number) a (restored_to x a) (λ s. refl) (λ s. refl) front back ∙ numbers.0)
-    (and_true (differ (λ (s t : Space). bytes_eq s.name t.name) new) (list_all (is_space (space_of new)) new)
+    (and_from (differ (λ (s t : Space). bytes_eq s.name t.name) new) (list_all (is_space (space_of new)) new)
     (differ_swap (λ (s t : Space). bytes_eq s.name t.name) a (restored_to x a) (λ s. refl) (λ s. refl) front back ∙ names.0)
     (all_swap (is_space (space_of old)) (is_space (space_of new)) a (restored_to x a) front back still (shorter (still a (all_middle (is_space (space_of old)) a front back names.1))) names.1)))
   where
@@ -82,16 +83,13 @@ spaces_back front back a x log e =
     still : (s : Space) → is_space (space_of (front ++ a ∷ back)) s ≡ true → is_space (space_of (front ++ restored_to x a ∷ back)) s ≡ true
     still s is = rw (placed_same s) is
 
-    le : (i j m : ℕ) → nat_le i j ≡ true → nat_le j m ≡ true → nat_le i m ≡ true
-    le i j m one two = grind (arith, one, two)
-
     shorter : is_space (space_of (front ++ restored_to x a ∷ back)) a ≡ true → is_space (space_of (front ++ restored_to x a ∷ back)) (restored_to x a) ≡ true
     shorter is =
-        let h = both (is_placed (space_of (front ++ restored_to x a ∷ back)) a && (is_short a.name && is_short a.writer)) (nat_le 1 a.next_place && (nat_le 1 a.next_implicit && nat_le a.log_length (2 ^ 62))) is in
-        let k = both (nat_le 1 a.next_place) (nat_le 1 a.next_implicit && nat_le a.log_length (2 ^ 62)) h.1 in
-        let l = both (nat_le 1 a.next_implicit) (nat_le a.log_length (2 ^ 62)) k.1 in
-        and_true (is_placed (space_of (front ++ restored_to x a ∷ back)) a && (is_short a.name && is_short a.writer)) _ h.0
-        (and_true (nat_le 1 a.next_place) _ k.0 (and_true (nat_le 1 a.next_implicit) (nat_le x.log_length (2 ^ 62)) l.0 (le x.log_length a.log_length (2 ^ 62) log l.1)))
+        let h = and_parts (is_placed (space_of (front ++ restored_to x a ∷ back)) a && (is_short a.name && is_short a.writer)) (nat_le 1 a.next_place && (nat_le 1 a.next_implicit && nat_le a.log_length (2 ^ 62))) is in
+        let k = and_parts (nat_le 1 a.next_place) (nat_le 1 a.next_implicit && nat_le a.log_length (2 ^ 62)) h.1 in
+        let l = and_parts (nat_le 1 a.next_implicit) (nat_le a.log_length (2 ^ 62)) k.1 in
+        and_from (is_placed (space_of (front ++ restored_to x a ∷ back)) a && (is_short a.name && is_short a.writer)) _ h.0
+        (and_from (nat_le 1 a.next_place) _ k.0 (and_from (nat_le 1 a.next_implicit) (nat_le x.log_length (2 ^ 62)) l.0 (nat_le-trans x.log_length a.log_length (2 ^ 62) log l.1)))
 
 module _ (p : Parts) (old new : Counters) (front : List Space) (a : Space) (back : List Space) (making : ℕ) (y : Version) (x : Record) (may : MayGoBack p old new front a back making y x) (rules : keep_rules p ≡ true) where
   r : Ruled p
@@ -108,7 +106,7 @@ module _ (p : Parts) (old new : Counters) (front : List Space) (a : Space) (back
   point = saved_there p rules x.space making x may.saved
 
   point_in : point.space ≡ a
-  point_in = one_space point.space a (sym point.found ∙ found)
+  point_in = same_Some point.space a (sym point.found ∙ found)
 
   spaces : are_spaces (front ++ restored_to x a ∷ back) ≡ true
   spaces = spaces_back front back a x (ap (λ (s : Space). nat_le x.log_length s.log_length) (sym point_in) ∙ point.log) (ap are_spaces (sym may.spaces) ∙ r.spaces)
@@ -124,7 +122,7 @@ module _ (p : Parts) (old new : Counters) (front : List Space) (a : Space) (back
     where
       by_number : (m ≡ x.space) ⊎ (m ≢ x.space) → SpaceBack (gone_back p new front a back y x) x m s
       by_number (inl at) =
-          let one : a ≡ s = one_space a s (sym found ∙ ap (space_of p.spaces) (sym at) ∙ is) in
+          let one : a ≡ s = same_Some a s (sym found ∙ ap (space_of p.spaces) (sym at) ∙ is) in
           record {
             new = restored_to x a;
             is = ap (space_of (front ++ restored_to x a ∷ back)) at ∙ here;
@@ -154,19 +152,13 @@ module _ (p : Parts) (old new : Counters) (front : List Space) (a : Space) (back
   -- the new version itself
   new_version : is_version (space_of (front ++ restored_to x a ∷ back)) (version_of (p.versions ++ y ∷ [])) (old.next_version + 1) y ≡ true
   new_version =
-      and_true (nat_lt y.number (old.next_version + 1)) _ (ap (λ k. nat_lt k (old.next_version + 1)) may.number ∙ lt_next old.next_version)
+      and_from (nat_lt y.number (old.next_version + 1)) _ (ap (λ k. nat_lt k (old.next_version + 1)) may.number ∙ nat_lt-next old.next_version)
       (ap (λ o. option_map_or stands o false) (ap (space_of (front ++ restored_to x a ∷ back)) may.its ∙ here)
       ∙ ap (λ b. if b then y.number == 1 else stands_under (version_of (p.versions ++ y ∷ [])) y (restored_to x a)) (ap (λ k. k == 0) may.parent ∙ version_numbered p old.next_version x.version x.space old_versions point.version)
-      ∙ and_true (nat_lt y.parent y.number) _ under (or_first (is_version_of (version_of (p.versions ++ y ∷ [])) y.parent y.space) (is_version_of (version_of (p.versions ++ y ∷ [])) y.parent a.parent) its_own))
+      ∙ and_from (nat_lt y.parent y.number) _ under (or_left (is_version_of (version_of (p.versions ++ y ∷ [])) y.parent y.space) (is_version_of (version_of (p.versions ++ y ∷ [])) y.parent a.parent) its_own))
     where
       stands : Space → Bool
       stands s = if y.parent == 0 then y.number == 1 else stands_under (version_of (p.versions ++ y ∷ [])) y s
-
-      lt_next : (n : ℕ) → nat_lt n (n + 1) ≡ true
-      lt_next n = grind arith
-
-      or_first : (b c : Bool) → b ≡ true → (b || c) ≡ true
-      or_first b c e = rw e refl
 
       its_own : is_version_of (version_of (p.versions ++ y ∷ [])) y.parent y.space ≡ true
       its_own =
@@ -177,29 +169,29 @@ module _ (p : Parts) (old new : Counters) (front : List Space) (a : Space) (back
   -- what the workspace sees under its own is a version of its parent
   has_back : has_versions (has_version p.versions) (version_of p.versions) a ≡ true → has_versions (has_version (p.versions ++ y ∷ [])) (version_of (p.versions ++ y ∷ [])) (restored_to x a) ≡ true
   has_back e =
-      let h = both (has_version (p.versions ++ y ∷ []) a.number) _ (has_versions-kept p (gone_back p new front a back y x) keep_versions a (has_push p.versions y a.number) e) in
-      and_true (has_version (p.versions ++ y ∷ []) a.number) _ h.0
+      let h = and_parts (has_version (p.versions ++ y ∷ []) a.number) _ (has_versions-kept p (gone_back p new front a back y x) keep_versions a (has_push p.versions y a.number) e) in
+      and_from (has_version (p.versions ++ y ∷ []) a.number) _ h.0
       (by_live (a.number == 0) h.1
       (base_back p (gone_back p new front a back y x) x keep_back keep_versions x.base_version a a refl refl (ap (is_base_of (version_of p.versions) x.base_version) (sym point_in) ∙ point.base)))
     where
       by_live : (b : Bool) → (if b then (a.birth_version == 1) && (a.base_version == 0) else is_version_of (version_of (p.versions ++ y ∷ [])) a.birth_version a.parent && is_version_of (version_of (p.versions ++ y ∷ [])) a.base_version a.parent) ≡ true
           → (if b then x.base_version == 0 else is_version_of (version_of (p.versions ++ y ∷ [])) x.base_version a.parent) ≡ true
           → (if b then (a.birth_version == 1) && (x.base_version == 0) else is_version_of (version_of (p.versions ++ y ∷ [])) a.birth_version a.parent && is_version_of (version_of (p.versions ++ y ∷ [])) x.base_version a.parent) ≡ true
-      by_live true h base = and_true (a.birth_version == 1) (x.base_version == 0) (both (a.birth_version == 1) (a.base_version == 0) h).0 base
+      by_live true h base = and_from (a.birth_version == 1) (x.base_version == 0) (and_parts (a.birth_version == 1) (a.base_version == 0) h).0 base
       by_live false h base =
-          and_true (is_version_of (version_of (p.versions ++ y ∷ [])) a.birth_version a.parent) (is_version_of (version_of (p.versions ++ y ∷ [])) x.base_version a.parent)
-          (both (is_version_of (version_of (p.versions ++ y ∷ [])) a.birth_version a.parent) (is_version_of (version_of (p.versions ++ y ∷ [])) a.base_version a.parent) h).0 base
+          and_from (is_version_of (version_of (p.versions ++ y ∷ [])) a.birth_version a.parent) (is_version_of (version_of (p.versions ++ y ∷ [])) x.base_version a.parent)
+          (and_parts (is_version_of (version_of (p.versions ++ y ∷ [])) a.birth_version a.parent) (is_version_of (version_of (p.versions ++ y ∷ [])) a.base_version a.parent) h).0 base
 
   versions : are_versions (gone_back p new front a back y x) (old.next_version + 1) ≡ true
   versions =
       let h = ruled_versions p old.next_version old_versions in
       let q = gone_back p new front a back y x in
       let there : list_all (has_versions (has_version p.versions) (version_of p.versions)) (front ++ a ∷ back) ≡ true = ap (list_all (has_versions (has_version p.versions) (version_of p.versions))) (sym may.spaces) ∙ h.spaces in
-      and_true (differ (λ (v w : Version). v.number == w.number) q.versions) _
+      and_from (differ (λ (v w : Version). v.number == w.number) q.versions) _
       (differ_push (λ (v w : Version). v.number == w.number) p.versions y h.numbers
-      (none_if (λ (w : Version). nat_lt w.number old.next_version) (λ (w : Version). w.number == y.number) (λ w lt. ap (λ k. w.number == k) may.number ∙ lt_apart w.number old.next_version lt) p.versions
+      (none_if (λ (w : Version). nat_lt w.number old.next_version) (λ (w : Version). w.number == y.number) (λ w lt. ap (λ k. w.number == k) may.number ∙ nat_lt-apart w.number old.next_version lt) p.versions
       (below-next p old.next_version old_versions)))
-      (and_true (list_all (is_version (space_of q.spaces) (version_of q.versions) (old.next_version + 1)) q.versions) (list_all (has_versions (has_version q.versions) (version_of q.versions)) q.spaces)
+      (and_from (list_all (is_version (space_of q.spaces) (version_of q.versions) (old.next_version + 1)) q.versions) (list_all (has_versions (has_version q.versions) (version_of q.versions)) q.spaces)
       (all_push (is_version (space_of q.spaces) (version_of q.versions) (old.next_version + 1)) p.versions y
       (all_if (is_version (space_of p.spaces) (version_of p.versions) old.next_version) (is_version (space_of q.spaces) (version_of q.versions) (old.next_version + 1))
       (version_back p q x keep_back old.next_version (old.next_version + 1) (le_next old.next_version) keep_versions) p.versions h.each)
@@ -207,22 +199,19 @@ module _ (p : Parts) (old new : Counters) (front : List Space) (a : Space) (back
       (all_swap (has_versions (has_version p.versions) (version_of p.versions)) (has_versions (has_version q.versions) (version_of q.versions)) a (restored_to x a) front back
       (λ s. has_versions-kept p q keep_versions s (has_push p.versions y s.number))
       (has_back (all_middle (has_versions (has_version p.versions) (version_of p.versions)) a front back there)) there))
-    where
-      lt_apart : (m n : ℕ) → nat_lt m n ≡ true → (m == n) ≡ false
-      lt_apart m n lt = grind (arith, lt)
 
   -- ---- all rules
 
   pub keep-restored : keep_rules (gone_back p new front a back y x) ≡ true
   keep-restored =
       let q = gone_back p new front a back y x in
-      let more = le_of old.work new.work may.work in
+      let more = le-leb old.work new.work may.work in
       let saves : are_savepoints p old.work ≡ true = ap (λ (c : Counters). are_savepoints p c.work) (sym same) ∙ r.savepoints in
       keeps_all q new refl may.counters r.tables spaces
       (ap (are_versions q) may.next ∙ versions)
       (saves_back p q x keep_back old.work new.work more keep_versions refl (few (ruled_savepoints p old.work saves).few) saves)
       (ap (are_rows p) may.stamps ∙ ap (λ (c : Counters). are_rows p c.next_stamp) (sym same) ∙ r.rows)
-      (ap (are_pieces q) may.stamps ∙ are_pieces-kept p q old.next_stamp old.next_stamp (le_itself old.next_stamp) (KeepTables-same p q refl) keep_versions (KeepRows-same p q refl) refl
+      (ap (are_pieces q) may.stamps ∙ are_pieces-kept p q old.next_stamp old.next_stamp (nat_le-itself old.next_stamp) (KeepTables-same p q refl) keep_versions (KeepRows-same p q refl) refl
       (ap (λ (c : Counters). are_pieces p c.next_stamp) (sym same) ∙ r.pieces))
       (ap (are_hists q) may.stamps ∙ hists_back p q x keep_back old.next_stamp refl refl refl (ap (λ (c : Counters). are_hists p c.next_stamp) (sym same) ∙ r.hists))
       (touches_back p q x keep_back (KeepTables-same p q refl) refl r.touches)
@@ -242,11 +231,11 @@ module _ (p : Parts) (old new : Counters) (front : List Space) (a : Space) (back
     old = found;
     some = fork.some;
     below = fork.below;
-    versions = newest-behind y p.versions below ∙ ap (λ z. z ∷ newest_first p.versions) (same_node y x.space x.version may.its may.parent);
+    versions = newest-push y p.versions below ∙ ap (λ z. z ∷ newest_first p.versions) (same_node y x.space x.version may.its may.parent);
     empty = fork.empty;
     count = length-append front (restored_to x a ∷ back) ∙ sym (length-append front (a ∷ back)) ∙ sym (ap length may.spaces);
     here = here;
-    elsewhere = λ m other. elsewhere m (λ at. bool_apart (sym (eq-eqb m x.space at) ∙ other));
+    elsewhere = λ m other. elsewhere m (λ at. true≢false (sym (eq-eqb m x.space at) ∙ other));
     savepoints = refl;
     touches = refl;
     marks = refl;

@@ -2,18 +2,20 @@
 use Rattle.std.proofs.Common.{◌≡◌, ℕ, zero, suc, nat_lt, nat_le, Bool, true, false, ◌&&◌, cond, List, [], ◌∷◌, map, length, take, Option, Some, None, refl, sym, ap, ◌∙◌, arith}
 use Rattle.std.proofs.lemmas.Bool.Decides.{nat_tests}
 use Rattle.std.proofs.lemmas.List.Sums.{length-filter}
+use Rattle.std.proofs.lemmas.Bool.{and_from, and_parts, true≢false}
 use Rattle.std.specs.List.{count_by, filter, find, list_all, slice_get}
+use Rattle.wm_base.proofs.Plain.{nat_le-itself, nat_lt-zero}
 use Rattle.wm_graph.specs.Rules.{differ}
 use Rattle.wm_spec.specs.declared.record.savepoint.Savepoint.{Savepoint as Record}
 use Rattle.wm_state.specs.Standing.{by_making, place_making}
 use Rattle.wm_state.proofs.Mapped.{find-else, find-filter, find-passes}
-use Rattle.wm_state.proofs.Tests.{all_filter, all_if, and_true, bool_apart, both}
+use Rattle.wm_state.proofs.Tests.{all_filter, all_if}
 
 -- ---- what is found
 
 -- an element that does not stay fails a test that only such pass as stay
 not_passed : (b c : Bool) → (b ≡ true → c ≡ true) → c ≡ false → b ≡ false
-not_passed true c keep out = absurd (bool_apart (sym (keep refl) ∙ out))
+not_passed true c keep out = absurd (true≢false (sym (keep refl) ∙ out))
 not_passed false c keep out = refl
 
 -- what is found among those that stay was found, and stays, where no two differ that pass
@@ -21,7 +23,7 @@ pub found-left : {A : Type 0} (k P : A → Bool) (same : A → A → Bool) → (
     → (find P xs ≡ Some x) × (k x ≡ true)
 found-left k P same as_one xs x apart found =
     let is : find (λ y. k y && P y) xs ≡ Some x = sym (find-filter k P xs) ∙ found in
-    let h = both (k x) (P x) (find-passes (λ y. k y && P y) xs x is) in
+    let h = and_parts (k x) (P x) (find-passes (λ y. k y && P y) xs x is) in
     (find-else P (λ y. k y && P y) same as_one xs x apart is h.1, h.0)
 
 -- where all stay that pass, the same is found
@@ -39,7 +41,7 @@ find-gone k P gone [] = refl
 find-gone k P gone (x ∷ xs) = by_test (k x) refl (find-gone k P gone xs)
   where
     fails : (b c : Bool) → (b ≡ true → c ≡ false) → c ≡ true → b ≡ false
-    fails true c out is = absurd (bool_apart (sym is ∙ out refl))
+    fails true c out is = absurd (true≢false (sym is ∙ out refl))
     fails false c out is = refl
 
     by_test : (b : Bool) → k x ≡ b → find P (filter k xs) ≡ None → find P (cond b (x ∷ filter k xs) (filter k xs)) ≡ None
@@ -79,10 +81,10 @@ filter-under {A = A} P k j same (x ∷ xs) = by_test (P x) refl (filter-under P 
 -- what passes and stays passes another test
 pub all_left : {A : Type 0} (k P Q : A → Bool) → ((x : A) → k x ≡ true → P x ≡ true → Q x ≡ true) → (xs : List A) → list_all P xs ≡ true → list_all Q (filter k xs) ≡ true
 all_left k P Q to [] all = refl
-all_left k P Q to (x ∷ xs) all = by_test (k x) refl (both (P x) (list_all P xs) all) (all_left k P Q to xs)
+all_left k P Q to (x ∷ xs) all = by_test (k x) refl (and_parts (P x) (list_all P xs) all) (all_left k P Q to xs)
   where
     by_test : (b : Bool) → k x ≡ b → (P x ≡ true) × (list_all P xs ≡ true) → (list_all P xs ≡ true → list_all Q (filter k xs) ≡ true) → list_all Q (cond b (x ∷ filter k xs) (filter k xs)) ≡ true
-    by_test true e h rest = and_true (Q x) (list_all Q (filter k xs)) (to x e h.0) (rest h.1)
+    by_test true e h rest = and_from (Q x) (list_all Q (filter k xs)) (to x e h.0) (rest h.1)
     by_test false e h rest = rest h.1
 
 -- no more of them pass
@@ -95,9 +97,6 @@ fewer {A = A} k P most xs few = le (count_by P (filter k xs)) (count_by P xs) (c
     count_le : (ys : List A) → nat_le (count_by P (filter k ys)) (count_by P ys) ≡ true
     count_le ys = ap (λ m. nat_le m (count_by P ys)) (sym (length-filter P (filter k ys))) ∙ ap (nat_le (length (filter P (filter k ys)))) (sym (length-filter P ys)) ∙ length_le ys
       where
-        itself : (m : ℕ) → nat_le m m ≡ true
-        itself m = grind arith
-
         more : (m n : ℕ) → nat_le m n ≡ true → nat_le m (suc n) ≡ true
         more m n e = grind (arith, e)
 
@@ -105,7 +104,7 @@ fewer {A = A} k P most xs few = le (count_by P (filter k xs)) (count_by P xs) (c
         next m n e = grind (arith, e)
 
         length_le : (zs : List A) → nat_le (length (filter P (filter k zs))) (length (filter P zs)) ≡ true
-        length_le [] = itself 0
+        length_le [] = nat_le-itself 0
         length_le (z ∷ zs) = by_test (k z) (P z) refl (length_le zs)
           where
             by_test : (b c : Bool) → P z ≡ c → nat_le (length (filter P (filter k zs))) (length (filter P zs)) ≡ true
@@ -155,28 +154,28 @@ le_over m n le i more = grind (arith, le, more)
 
 place_first : (x : Record) (ys : List Record) → made_from x.making ys ≡ true → place_making x ys ≡ x ∷ ys
 place_first x [] e = refl
-place_first x (y ∷ ys) e = rw (not_less x.making y.making (both (nat_le x.making y.making) (made_from x.making ys) e).0) refl
+place_first x (y ∷ ys) e = rw (not_less x.making y.making (and_parts (nat_le x.making y.making) (made_from x.making ys) e).0) refl
 
 place_from : (making : ℕ) (x : Record) (ys : List Record) → nat_le making x.making ≡ true → made_from making ys ≡ true → made_from making (place_making x ys) ≡ true
-place_from making x [] is all = and_true (nat_le making x.making) true is refl
-place_from making x (y ∷ ys) is all = by_test (nat_lt y.making x.making) (both (nat_le making y.making) (made_from making ys) all) (place_from making x ys is)
+place_from making x [] is all = and_from (nat_le making x.making) true is refl
+place_from making x (y ∷ ys) is all = by_test (nat_lt y.making x.making) (and_parts (nat_le making y.making) (made_from making ys) all) (place_from making x ys is)
   where
     by_test : (b : Bool) → (nat_le making y.making ≡ true) × (made_from making ys ≡ true) → (made_from making ys ≡ true → made_from making (place_making x ys) ≡ true)
         → made_from making (cond b (y ∷ place_making x ys) (x ∷ y ∷ ys)) ≡ true
-    by_test true h rest = and_true (nat_le making y.making) (made_from making (place_making x ys)) h.0 (rest h.1)
-    by_test false h rest = and_true (nat_le making x.making) (made_from making (y ∷ ys)) is all
+    by_test true h rest = and_from (nat_le making y.making) (made_from making (place_making x ys)) h.0 (rest h.1)
+    by_test false h rest = and_from (nat_le making x.making) (made_from making (y ∷ ys)) is all
 
 place_sorted : (x : Record) (ys : List Record) → are_sorted ys ≡ true → are_sorted (place_making x ys) ≡ true
 place_sorted x [] e = refl
-place_sorted x (y ∷ ys) e = by_test (nat_lt y.making x.making) refl (both (made_from y.making ys) (are_sorted ys) e) (place_sorted x ys)
+place_sorted x (y ∷ ys) e = by_test (nat_lt y.making x.making) refl (and_parts (made_from y.making ys) (are_sorted ys) e) (place_sorted x ys)
   where
     by_test : (b : Bool) → nat_lt y.making x.making ≡ b → (made_from y.making ys ≡ true) × (are_sorted ys ≡ true) → (are_sorted ys ≡ true → are_sorted (place_making x ys) ≡ true)
         → are_sorted (cond b (y ∷ place_making x ys) (x ∷ y ∷ ys)) ≡ true
-    by_test true lt h rest = and_true (made_from y.making (place_making x ys)) (are_sorted (place_making x ys)) (place_from y.making x ys (le_of_less y.making x.making lt) h.0) (rest h.1)
+    by_test true lt h rest = and_from (made_from y.making (place_making x ys)) (are_sorted (place_making x ys)) (place_from y.making x ys (le_of_less y.making x.making lt) h.0) (rest h.1)
     by_test false ge h rest =
         let le = not_more x.making y.making ge in
-        and_true (made_from x.making (y ∷ ys)) (are_sorted (y ∷ ys))
-        (and_true (nat_le x.making y.making) (made_from x.making ys) le (all_if (λ (z : Record). nat_le y.making z.making) (λ (z : Record). nat_le x.making z.making) (λ z more. le_over x.making y.making le z.making more) ys h.0)) e
+        and_from (made_from x.making (y ∷ ys)) (are_sorted (y ∷ ys))
+        (and_from (nat_le x.making y.making) (made_from x.making ys) le (all_if (λ (z : Record). nat_le y.making z.making) (λ (z : Record). nat_le x.making z.making) (λ z more. le_over x.making y.making le z.making more) ys h.0)) e
 
 sorted : (xs : List Record) → are_sorted (by_making xs) ≡ true
 sorted [] = refl
@@ -195,7 +194,7 @@ place_in P x [] is e = rw is refl
 place_in P x (y ∷ ys) is e = by_test (nat_lt y.making x.making) refl (P y) refl (place_in P x ys is h.1)
   where
     h : (made_from y.making ys ≡ true) × (are_sorted ys ≡ true)
-    h = both (made_from y.making ys) (are_sorted ys) e
+    h = and_parts (made_from y.making ys) (are_sorted ys) e
 
     behind : nat_lt y.making x.making ≡ false → made_from x.making (filter P ys) ≡ true
     behind ge = all_filter (λ (z : Record). nat_le x.making z.making) P ys
@@ -220,10 +219,7 @@ making-filter P (x ∷ xs) = by_test (P x) refl (making-filter P xs)
 -- ---- the front of a list
 
 pub slice_get-take : {A : Type 0} (many : ℕ) (xs : List A) (i : ℕ) → slice_get (take many xs) i ≡ cond (nat_lt i many) (slice_get xs i) None
-slice_get-take {A = A} zero xs i = ap (λ b. cond b (slice_get xs i) None) (sym (none_less i))
-  where
-    none_less : (j : ℕ) → nat_lt j 0 ≡ false
-    none_less j = grind arith
+slice_get-take {A = A} zero xs i = ap (λ b. cond b (slice_get xs i) None) (sym (nat_lt-zero i))
 slice_get-take {A = A} (suc many) [] i = by_test (nat_lt i (suc many))
   where
     by_test : (b : Bool) → (let nothing : Option A = None in nothing) ≡ cond b None None

@@ -2,6 +2,7 @@
 -- its base is the savepoint's; all else was named, and was own, before.
 use Rattle.std.proofs.Common.{◌≡◌, ◌≢◌, ℕ, ◌<◌, ◌≤◌, ◌==◌, Bool, true, false, if◌then◌else◌, List, ◌∷◌, Some, is_some, refl, sym, ap, subst, ◌∙◌, ◌⊎◌, inl, inr, arith}
 use Rattle.std.proofs.lemmas.Bool.{cases_eq, eq-eqb, eqb-true, ne_eqb}
+use Rattle.std.proofs.lemmas.Option.{same_Some}
 use Rattle.wm_graph.specs.Parts.{Parts, space_of, version_of}
 use Rattle.wm_graph.specs.Rules.{keep_rules, is_version_of}
 use Rattle.wm_spec.specs.Lists.{Entry}
@@ -50,12 +51,9 @@ module _ (p q : Parts) (s t : Durable) (n number making : ℕ) (a : Space) (w : 
   was_space : (m : ℕ) (new : Space) → space_of q.spaces m ≡ Some new → WasSpace p n x m new
   was_space m new is = by_number (cases_eq m n)
     where
-      some_same : (b c : Space) → Some b ≡ Some c → b ≡ c
-      some_same b c e = cc
-
       by_number : (m ≡ n) ⊎ (m ≢ n) → WasSpace p n x m new
       by_number (inl here) =
-          let same = some_same new (restored_to x a) (sym is ∙ ap (space_of q.spaces) here ∙ v.here) in
+          let same = same_Some new (restored_to x a) (sym is ∙ ap (space_of q.spaces) here ∙ v.here) in
           record { old = a; is = ap (space_of p.spaces) here ∙ v.old; birth = ap (λ (b : Space). b.birth_version) same; base = inl (here, ap (λ (b : Space). b.base_version) same) }
       by_number (inr away) = record { old = new; is = sym (v.elsewhere m (ne_eqb _ _ away)) ∙ is; birth = refl; base = inr (away, refl) }
 

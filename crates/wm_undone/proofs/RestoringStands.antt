@@ -1,6 +1,6 @@
 -- The records of a workspace that went back to a savepoint stand for the state in which it did.
-use Rattle.std.proofs.Common.{◌≡◌, ◌≢◌, ℕ, ◌≤◌, ◌==◌, nat_lt, nat_le, min, Bool, true, false, not, ◌&&◌, ◌||◌, cond, List, length, take, Option, Some, None, refl, sym, ap, subst, ◌∙◌, ◌⊎◌, inl, inr, arith}
-use Rattle.std.proofs.lemmas.Bool.{cases_eq, eqb-true, ne_eqb}
+use Rattle.std.proofs.Common.{◌≡◌, ◌≢◌, ℕ, ◌≤◌, ◌==◌, nat_lt, nat_le, min, Bool, true, false, not, ◌&&◌, ◌||◌, cond, List, length, take, Option, Some, None, refl, sym, ap, subst, ◌∙◌, ◌⊎◌, inl, inr, arith, le_refl}
+use Rattle.std.proofs.lemmas.Bool.{cases_eq, eqb-true, ne_eqb, and_parts, leb-true, or_right}
 use Rattle.std.proofs.lemmas.List.{length-take}
 use Rattle.std.proofs.lemmas.List.Elements.{All-take}
 use Rattle.std.specs.Bool.{then_some}
@@ -21,7 +21,6 @@ use Rattle.wm_state.proofs.Logging.{HaveRows, log_of-found, log_of-same, rows-ke
 use Rattle.wm_state.proofs.Ready.{KeepReady, KeepReady-same, all_real-kept}
 use Rattle.wm_state.proofs.Staying.{AreReal, EntriesStand-kept, LaterStand-same, SameTurns, TurnsStand-alike, entries_real, part-changed, turn_rows-kept, turns_in, WasTold}
 use Rattle.wm_state.proofs.Marking.{AreMarked, MarksStand-kept, SayMarked, marks_in}
-use Rattle.wm_state.proofs.Tests.{both}
 use Rattle.wm_forked.proofs.Placed.{Tell-as}
 use Rattle.wm_undone.specs.Restoring.{GoesBack, RestoredTo, restored, stays_logged, stays_marked, stays_touched}
 use Rattle.wm_undone.proofs.Marked.{marked_back, marked_beside}
@@ -75,22 +74,16 @@ module _ (p q : Parts) (s t : Durable) (n number making : ℕ) (a : Space) (w : 
   told_latest : TouchesStand p s → TouchesTell q.touches n w.next_place (take k.log_length w.lists.log)
   told_latest touches = left n w.next_place (take k.log_length w.lists.log)
       (tells_back n k.place k.log_length w.next_place (take k.log_length w.lists.log) p.touches (touches_there p rules) (place_within p q s t n number making a w k x v g rules there saves spaces)
-      (front_within k.log_length k.log_length w.lists.log (itself k.log_length)) (touches.kept n making w k g.found g.made))
-    where
-      itself : (m : ℕ) → m ≤ m
-      itself m = omega arith
+      (front_within k.log_length k.log_length w.lists.log (le_refl k.log_length)) (touches.kept n making w k g.found g.made))
 
   told_kept : TouchesStand p s → (at : ℕ) (j : Savepoint) → savepoint_made at w.savepoints ≡ Some j → (nat_le j.place k.place && nat_le j.log_length k.log_length) ≡ true
       → TouchesTell q.touches n j.place (take j.log_length (take k.log_length w.lists.log))
   told_kept touches at j made stays =
-      let h = both (nat_le j.place k.place) (nat_le j.log_length k.log_length) stays in
+      let h = and_parts (nat_le j.place k.place) (nat_le j.log_length k.log_length) stays in
       left n j.place (take j.log_length (take k.log_length w.lists.log))
       (Tell-as (filter (stays_touched n k.place k.log_length) p.touches) _ _ _ _ _ _ refl refl (take-take j.log_length k.log_length h.1 w.lists.log)
-      (tells_left n k.place k.log_length j.place (take j.log_length w.lists.log) p.touches (touches_there p rules) (le_of j.place k.place h.0)
-      (front_within j.log_length k.log_length w.lists.log (le_of j.log_length k.log_length h.1)) (touches.kept n at w j g.found made)))
-    where
-      le_of : (i l : ℕ) → nat_le i l ≡ true → i ≤ l
-      le_of i l e = grind (arith, e)
+      (tells_left n k.place k.log_length j.place (take j.log_length w.lists.log) p.touches (touches_there p rules) (leb-true j.place k.place h.0)
+      (front_within j.log_length k.log_length w.lists.log (leb-true j.log_length k.log_length h.1)) (touches.kept n at w j g.found made)))
 
   TouchesStand-restored : TouchesStand p s → TouchesStand q t
   TouchesStand-restored touches = record { latest = λ m new is. latest m new (was m new is); kept = λ m at new j is made. at_point m at new j (was_made m at new j is made) }
@@ -136,16 +129,12 @@ module _ (p q : Parts) (s t : Durable) (n number making : ℕ) (a : Space) (w : 
   -- a record of another workspace stays, and one of this where its position does
   stays_of : (m position : ℕ) → ((m ≡ n) × (nat_lt position k.log_length ≡ true)) ⊎ (m ≢ n) → (y : Hist) → ((y.space == m) && (y.position == position)) ≡ true → stays_logged n k.log_length y ≡ true
   stays_of m position (inl h) y is =
-      or_true (not (y.space == n)) (nat_lt y.position k.log_length) (ap (λ i. nat_lt i k.log_length) (eqb-true y.position position (both (y.space == m) (y.position == position) is).1) ∙ h.1)
-    where
-      or_true : (b c : Bool) → c ≡ true → (b || c) ≡ true
-      or_true true c e = refl
-      or_true false c e = e
-  stays_of m position (inr away) y is = ap (λ b. not b || nat_lt y.position k.log_length) (ne_eqb y.space n (λ same. away (sym (eqb-true y.space m (both (y.space == m) (y.position == position) is).0) ∙ same)))
+      or_right (not (y.space == n)) (nat_lt y.position k.log_length) (ap (λ i. nat_lt i k.log_length) (eqb-true y.position position (and_parts (y.space == m) (y.position == position) is).1) ∙ h.1)
+  stays_of m position (inr away) y is = ap (λ b. not b || nat_lt y.position k.log_length) (ne_eqb y.space n (λ same. away (sym (eqb-true y.space m (and_parts (y.space == m) (y.position == position) is).0) ∙ same)))
 
   goes_of : (position : ℕ) → nat_lt position k.log_length ≡ false → (y : Hist) → ((y.space == n) && (y.position == position)) ≡ true → stays_logged n k.log_length y ≡ false
   goes_of position past y is =
-      let h = both (y.space == n) (y.position == position) is in
+      let h = and_parts (y.space == n) (y.position == position) is in
       ap (λ b. not b || nat_lt y.position k.log_length) h.0 ∙ ap (λ i. nat_lt i k.log_length) (eqb-true y.position position h.1) ∙ past
 
   HistsStand-restored : t.tables ≡ s.tables → HistsStand p s → HistsStand q t

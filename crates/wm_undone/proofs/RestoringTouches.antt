@@ -1,18 +1,20 @@
 -- The touches that stay where a workspace goes back to a savepoint tell its log as it was there, and at each savepoint that stays what
 -- they told: such a touch was made below the savepoint's place, and what was touched there is a position of the log that is left.
-use Rattle.std.proofs.Common.{◌≡◌, ◌≢◌, ℕ, suc, ◌+◌, ◌<◌, ◌≤◌, ◌==◌, nat_lt, nat_le, max, Bool, true, false, not, ◌&&◌, ◌||◌, cond, if◌then◌else◌, List, [], ◌∷◌, length, refl, sym, ap, subst, ◌∙◌, arith}
-use Rattle.std.proofs.lemmas.Bool.{eq-eqb, eqb-true, ne_eqb}
+use Rattle.std.proofs.Common.{◌≡◌, ◌≢◌, ℕ, ◌+◌, ◌<◌, ◌≤◌, ◌==◌, nat_lt, nat_le, max, Bool, true, false, not, ◌&&◌, ◌||◌, cond, if◌then◌else◌, List, [], ◌∷◌, length, refl, sym, ap, subst, ◌∙◌, arith, le_refl}
+use Rattle.std.proofs.lemmas.Bool.{eq-eqb, eqb-true, ne_eqb, and_from, and_parts, lt-ltb, true≢false}
 use Rattle.std.specs.List.{filter, list_all}
 use Rattle.std.specs.Ordering.{is_eq}
+use Rattle.wm_base.proofs.Plain.{nat_le-itself}
 use Rattle.wm_base.specs.Key.{key_order}
 use Rattle.wm_base.specs.Orders.{key_order-itself}
 use Rattle.wm_graph.specs.Parts.{Parts, space_of, table_of}
 use Rattle.wm_graph.specs.Rules.{are_cells, differ, is_given, is_touch, is_trace, keep_rules, meet}
-use Rattle.wm_spec.specs.Lists.{Cell, Entry, covers, reach, touched}
+use Rattle.wm_spec.proofs.Reaching.{reach_within}
+use Rattle.wm_spec.specs.Lists.{Cell, Entry, reach}
 use Rattle.wm_spec.specs.declared.record.trace.Trace.{Trace}
 use Rattle.wm_state.specs.Standing.{TouchesTell, has_ends, in_cells, reached, touches_end}
 use Rattle.wm_state.proofs.Apart.{ruled}
-use Rattle.wm_state.proofs.Tests.{all_filter, all_if, and_true, bool_apart, both}
+use Rattle.wm_state.proofs.Tests.{all_filter, all_if}
 use Rattle.wm_undone.specs.Restoring.{stays_touched}
 
 -- ---- cells of touches
@@ -25,13 +27,13 @@ has_cells x = nat_lt x.cells.from x.cells.till
 pub touches_there : (p : Parts) → keep_rules p ≡ true → list_all has_cells p.touches ≡ true
 touches_there p rules =
     all_if (is_touch (table_of p.tables) (space_of p.spaces)) has_cells (λ x is. there x is) p.touches
-    (both (differ meet p.touches) (list_all (is_touch (table_of p.tables) (space_of p.spaces)) p.touches) (ruled p rules).touches).1
+    (and_parts (differ meet p.touches) (list_all (is_touch (table_of p.tables) (space_of p.spaces)) p.touches) (ruled p rules).touches).1
   where
     there : (x : Trace) → is_touch (table_of p.tables) (space_of p.spaces) x ≡ true → has_cells x ≡ true
     there x is =
-        let h = both (is_trace (table_of p.tables) (space_of p.spaces) x) _ is in
-        let g = both (are_cells (table_of p.tables) x.cells) (is_given (space_of p.spaces) x.space x.place) h.0 in
-        (both (has_cells x) _ (both (has_cells x && _) _ g.0).0).0
+        let h = and_parts (is_trace (table_of p.tables) (space_of p.spaces) x) _ is in
+        let g = and_parts (are_cells (table_of p.tables) x.cells) (is_given (space_of p.spaces) x.space x.place) h.0 in
+        (and_parts (has_cells x) _ (and_parts (has_cells x && _) _ g.0).0).0
 
 -- the first of them
 abbrev first_cell : Trace → Cell
@@ -39,40 +41,11 @@ first_cell x = record { table = x.cells.table; key = x.cells.key; time = x.cells
 
 in_first : (x : Trace) → has_cells x ≡ true → in_cells x.cells (first_cell x) ≡ true
 in_first x some =
-    and_true ((x.cells.table == x.cells.table) && is_eq (key_order x.cells.key x.cells.key)) (nat_le x.cells.from x.cells.from && nat_lt x.cells.from x.cells.till)
-    (and_true (x.cells.table == x.cells.table) (is_eq (key_order x.cells.key x.cells.key)) (eq-eqb x.cells.table x.cells.table refl) (ap is_eq (key_order-itself x.cells.key)))
-    (and_true (nat_le x.cells.from x.cells.from) (nat_lt x.cells.from x.cells.till) (itself x.cells.from) some)
-  where
-    itself : (m : ℕ) → nat_le m m ≡ true
-    itself m = grind arith
-
--- ---- how far a log reaches
-
-reach_within : (es : List Entry) (c : Cell) → reach es c ≤ length es
-reach_within [] c = none_less
-  where
-    none_less : 0 ≤ 0
-    none_less = omega arith
-reach_within (e ∷ es) c = by_test (touched es c) (covers e c) (reach_within es c)
-  where
-    more : (m n : ℕ) → m ≤ n → m + 1 ≤ suc n
-    more m n le = omega (arith, le)
-
-    one : (n : ℕ) → 1 ≤ suc n
-    one n = omega arith
-
-    none : (n : ℕ) → 0 ≤ suc n
-    none n = omega arith
-
-    by_test : (a b : Bool) → reach es c ≤ length es → cond a (reach es c + 1) (cond b 1 0) ≤ suc (length es)
-    by_test true b rest = more (reach es c) (length es) rest
-    by_test false true rest = one (length es)
-    by_test false false rest = none (length es)
+    and_from ((x.cells.table == x.cells.table) && is_eq (key_order x.cells.key x.cells.key)) (nat_le x.cells.from x.cells.from && nat_lt x.cells.from x.cells.till)
+    (and_from (x.cells.table == x.cells.table) (is_eq (key_order x.cells.key x.cells.key)) (eq-eqb x.cells.table x.cells.table refl) (ap is_eq (key_order-itself x.cells.key)))
+    (and_from (nat_le x.cells.from x.cells.from) (nat_lt x.cells.from x.cells.till) (nat_le-itself x.cells.from) some)
 
 -- ---- touches that stay
-
-less_of : (m n : ℕ) → m < n → nat_lt m n ≡ true
-less_of m n lt = grind (arith, lt)
 
 -- one that does not count
 no_more : (b d : Bool) (i r : ℕ) → b ≡ false → r ≡ max (if b && d then i + 1 else 0) r
@@ -88,7 +61,7 @@ module _ (n place count : ℕ) where
     where
       gone : (s r : Bool) → (not s || r) ≡ false → s ≡ true
       gone true r e = refl
-      gone false r e = absurd (bool_apart e)
+      gone false r e = absurd (true≢false e)
 
   -- touches of another workspace tell what they told
   reached_beside : (m below : ℕ) → m ≢ n → (xs : List Trace) (c : Cell) → reached (filter (stays_touched n place count) xs) m below c ≡ reached xs m below c
@@ -117,8 +90,8 @@ module _ (n place count : ℕ) where
   all_left : (low : ℕ) (xs : List Trace) → list_all has_cells xs ≡ true → ((c : Cell) → reached xs n low c ≤ count) → list_all (is_left low) xs ≡ true
   all_left low [] cells within = refl
   all_left low (x ∷ xs) cells within =
-      let h = both (has_cells x) (list_all has_cells xs) cells in
-      and_true (is_left low x) (list_all (is_left low) xs) (by_test ((x.space == n) && nat_lt x.place low) (in_cells x.cells (first_cell x)) (in_first x h.0) (within (first_cell x)))
+      let h = and_parts (has_cells x) (list_all has_cells xs) cells in
+      and_from (is_left low x) (list_all (is_left low) xs) (by_test ((x.space == n) && nat_lt x.place low) (in_cells x.cells (first_cell x)) (in_first x h.0) (within (first_cell x)))
       (all_left low xs h.1 (λ c. behind (if ((x.space == n) && nat_lt x.place low) && in_cells x.cells c then x.position + 1 else 0) (reached xs n low c) (within c)))
     where
       behind : (m r : ℕ) → max m r ≤ count → r ≤ count
@@ -128,14 +101,14 @@ module _ (n place count : ℕ) where
       first i r le = omega (arith, le)
 
       by_test : (b d : Bool) → d ≡ true → max (if b && d then x.position + 1 else 0) (reached xs n low (first_cell x)) ≤ count → (if b then nat_lt x.position count else true) ≡ true
-      by_test true true is le = less_of x.position count (first x.position (reached xs n low (first_cell x)) le)
-      by_test true false is le = absurd (bool_apart (sym is))
+      by_test true true is le = lt-ltb x.position count (first x.position (reached xs n low (first_cell x)) le)
+      by_test true false is le = absurd (true≢false (sym is))
       by_test false d is le = refl
 
   -- and stays, where the place is no greater
   reached_left : (low : ℕ) → low ≤ place → (xs : List Trace) (c : Cell) → list_all (is_left low) xs ≡ true → reached (filter (stays_touched n place count) xs) n low c ≡ reached xs n low c
   reached_left low wide [] c all = refl
-  reached_left low wide (x ∷ xs) c all = let h = both (is_left low x) (list_all (is_left low) xs) all in by_test h.0 (stays_touched n place count x) refl (reached_left low wide xs c h.1)
+  reached_left low wide (x ∷ xs) c all = let h = and_parts (is_left low x) (list_all (is_left low) xs) all in by_test h.0 (stays_touched n place count x) refl (reached_left low wide xs c h.1)
     where
       wider : (i : ℕ) → nat_lt i low ≡ true → nat_lt i place ≡ true
       wider i lt = grind (arith, wide, lt)
@@ -143,7 +116,7 @@ module _ (n place count : ℕ) where
       out : (s l b d : Bool) → (l ≡ true → b ≡ true) → (not s || (b && d)) ≡ false → (if s && l then d else true) ≡ true → (s && l) ≡ false
       out false l b d more e is = refl
       out true false b d more e is = refl
-      out true true b d more e is = absurd (bool_apart (sym (and_true b d (more refl) is) ∙ e))
+      out true true b d more e is = absurd (true≢false (sym (and_from b d (more refl) is) ∙ e))
 
       by_test : is_left low x ≡ true → (b : Bool) → stays_touched n place count x ≡ b → reached (filter (stays_touched n place count) xs) n low c ≡ reached xs n low c
           → reached (cond b (x ∷ filter (stays_touched n place count) xs) (filter (stays_touched n place count) xs)) n low c ≡ reached (x ∷ xs) n low c
@@ -175,7 +148,7 @@ module _ (n place count : ℕ) where
 
       by_space : (s a b d : Bool) → (b ≡ true → a ≡ true) → (not s || (b && d)) ≡ true → (s && a) ≡ (s && b)
       by_space false a b d more is = refl
-      by_space true a b d more is = let h = both b d is in more h.0 ∙ sym h.0
+      by_space true a b d more is = let h = and_parts b d is in more h.0 ∙ sym h.0
 
   reached_over : (below : ℕ) → place ≤ below → (xs : List Trace) (c : Cell) → reached (filter (stays_touched n place count) xs) n below c ≡ reached (filter (stays_touched n place count) xs) n place c
   reached_over below wide [] c = refl
@@ -204,8 +177,5 @@ module _ (n place count : ℕ) where
   -- so that they tell below each greater place what they told there
   pub tells_back : (below : ℕ) (log : List Entry) (xs : List Trace) → list_all has_cells xs ≡ true → place ≤ below → length log ≤ count → TouchesTell xs n place log → TouchesTell (filter (stays_touched n place count) xs) n below log
   tells_back below log xs cells wide short tell =
-      let h = tells_left place log xs cells (itself place) short tell in
+      let h = tells_left place log xs cells (le_refl place) short tell in
       record { reaches = λ c. reached_over below wide xs c ∙ h.reaches c; ends = ends_over below wide xs log ∙ h.ends }
-    where
-      itself : (m : ℕ) → m ≤ m
-      itself m = omega arith

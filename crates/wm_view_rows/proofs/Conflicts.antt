@@ -1,5 +1,6 @@
 -- What is shown of the conflicts of a workspace by its records is what is shown of them by its lists.
 use Rattle.std.proofs.Common.{◌≡◌, ℕ, Bool, true, false, List, [], ◌∷◌, ◌++◌, Option, Some, None, is_some, refl, sym, ap, ◌∙◌}
+use Rattle.std.proofs.lemmas.Option.{none-some}
 use Rattle.std.specs.Bool.{then_some}
 use Rattle.std.specs.List.{AllByRecursion, flat_map}
 use Rattle.std.specs.Option.{option_and_then, option_map}
@@ -40,10 +41,7 @@ side_same p (Some t) has = by_row t.row refl
 
 given_is : {A : Type 0} (b : Bool) (x y : A) → then_some b x ≡ Some y → x ≡ y
 given_is true x y e = cc
-given_is {A = A} false x y e = absurd (nothing e)
-  where
-    nothing : (let none : Option A = None in none) ≡ Some y → ⊥
-    nothing h = cc
+given_is {A = A} false x y e = absurd (none-some y e)
 
 flat_same : {A B : Type 0} (F G : A → List B) (xs : List A) → AllByRecursion (λ x. F x ≡ G x) xs → flat_map F xs ≡ flat_map G xs
 flat_same F G [] all = refl

@@ -1,6 +1,7 @@
 -- The rows of views fit their columns.
 use Rattle.std.proofs.Common.{◌≡◌, ℕ, suc, ◌+◌, ◌<◌, ◌==◌, ◌&&◌, ◌||◌, not, Bool, true, false, nat_lt, nat_le, if◌then◌else◌, List, [], ◌∷◌, ◌++◌, map, slice_get, Option, Some, None, is_some, refl, sym, ap, ◌∙◌, arith, subst, eqb-true, eq-eqb, codes}
-use Rattle.std.proofs.lemmas.Bool.{ne_eqb}
+use Rattle.std.proofs.lemmas.Bool.{ne_eqb, and_from, and_parts, or_right, true≢false}
+use Rattle.std.proofs.lemmas.Option.{same_Some, none-some}
 use Rattle.std.specs.Bool.{then_some}
 use Rattle.std.specs.List.{AllByRecursion, find, flat_map, list_all}
 use Rattle.std.specs.Option.{option_and_then, option_map, option_map_or, option_or}
@@ -35,7 +36,7 @@ use Rattle.wm_spec.specs.declared.record.table.Table.{Table}
 use Rattle.wm_state.specs.Standing.{covers_at, held_by, latest, newest_first, own_at, seen, seen_at, stored_at}
 use Rattle.wm_state.proofs.Apart.{found-passes, ruled}
 use Rattle.wm_state.proofs.Laying.{key_same}
-use Rattle.wm_state.proofs.Tests.{and_true, bool_apart, both}
+use Rattle.wm_state.proofs.Appending.{all_append}
 use Rattle.wm_telling.specs.Telling.{clash_held, is_pending, is_unsettled, own_held, stamps_of, standing}
 use Rattle.wm_typing.specs.Columns.{columns_of_table, declared_column, valid_column}
 use Rattle.wm_view_rows.specs.Columns.{columns_of_view, history_columns, text_column}
@@ -52,16 +53,16 @@ fits_one v kind = (type_place v == 0) || (type_place v == kind)
 
 fits_more : (xs ys : List Column) (vs ws : List Value) → fits_columns xs vs ≡ true → fits_columns ys ws ≡ true → fits_columns (xs ++ ys) (vs ++ ws) ≡ true
 fits_more [] ys [] ws one two = two
-fits_more [] ys (v ∷ vs) ws one two = absurd (bool_apart (sym one))
-fits_more (x ∷ xs) ys [] ws one two = absurd (bool_apart (sym one))
+fits_more [] ys (v ∷ vs) ws one two = absurd (true≢false (sym one))
+fits_more (x ∷ xs) ys [] ws one two = absurd (true≢false (sym one))
 fits_more (x ∷ xs) ys (v ∷ vs) ws one two =
-    let h = both (fits_one v x.kind) (fits_columns xs vs) one in
-    and_true (fits_one v x.kind) (fits_columns (xs ++ ys) (vs ++ ws)) h.0 (fits_more xs ys vs ws h.1 two)
+    let h = and_parts (fits_one v x.kind) (fits_columns xs vs) one in
+    and_from (fits_one v x.kind) (fits_columns (xs ++ ys) (vs ++ ws)) h.0 (fits_more xs ys vs ws h.1 two)
 
 value_fits : (c : TableColumn) (v : Value) → fits_column c v ≡ true → fits_one v (type_of c.kind) ≡ true
 value_fits c values.Null is = refl
 value_fits c (values.Num n) is = is
-value_fits c (values.Text t) is = by_kind c.kind (both (type_of c.kind == 2) _ is).0
+value_fits c (values.Text t) is = by_kind c.kind (and_parts (type_of c.kind == 2) _ is).0
   where
     by_kind : (k : ColumnKind) → (type_of k == 2) ≡ true → (2 == type_of k) ≡ true
     by_kind kinds.Number e = e
@@ -73,17 +74,13 @@ value_fits c (values.Span s) is = is
 -- the values of a row of a table
 row_fits : (source : List ℕ) (cs : List TableColumn) (vs : List Value) → fit_columns cs vs ≡ true → fits_columns (map (declared_column source) cs) vs ≡ true
 row_fits source [] [] is = refl
-row_fits source [] (v ∷ vs) is = absurd (bool_apart (sym is))
-row_fits source (c ∷ cs) [] is = absurd (bool_apart (sym is))
+row_fits source [] (v ∷ vs) is = absurd (true≢false (sym is))
+row_fits source (c ∷ cs) [] is = absurd (true≢false (sym is))
 row_fits source (c ∷ cs) (v ∷ vs) is =
-    let h = both (fits_column c v) (fit_columns cs vs) is in
-    and_true (fits_one v (type_of c.kind)) (fits_columns (map (declared_column source) cs) vs) (value_fits c v h.0) (row_fits source cs vs h.1)
+    let h = and_parts (fits_column c v) (fit_columns cs vs) is in
+    and_from (fits_one v (type_of c.kind)) (fits_columns (map (declared_column source) cs) vs) (value_fits c v h.0) (row_fits source cs vs h.1)
 
 -- ---- a key among NULLs
-
-or_true : (a b : Bool) → b ≡ true → (a || b) ≡ true
-or_true true b e = refl
-or_true false b e = e
 
 key_fits : (columns : List TableColumn) (places : List ℕ) (key : List Value) (place : ℕ) (c : TableColumn) → are_typed columns places key ≡ true → slice_get columns place ≡ Some c
     → fits_one (key_value places key place) (type_of c.kind) ≡ true
@@ -91,21 +88,21 @@ key_fits columns [] [] place c typed at = refl
 key_fits columns [] (v ∷ key) place c typed at = refl
 key_fits columns (p ∷ places) [] place c typed at = refl
 key_fits columns (p ∷ places) (v ∷ key) place c typed at =
-    let h = both (is_typed columns p v) (are_typed columns places key) typed in
+    let h = and_parts (is_typed columns p v) (are_typed columns places key) typed in
     by_test (p == place) refl h.0 (key_fits columns places key place c h.1 at)
   where
     by_test : (b : Bool) → (p == place) ≡ b → is_typed columns p v ≡ true → fits_one (key_value places key place) (type_of c.kind) ≡ true
         → fits_one (if b then v else key_value places key place) (type_of c.kind) ≡ true
     by_test false e is rest = rest
     by_test true e is rest =
-        or_true (type_place v == 0) (type_place v == type_of c.kind)
+        or_right (type_place v == 0) (type_place v == type_of c.kind)
         (sym (ap (λ (o : Option TableColumn). option_map_or (λ (c : TableColumn). type_place v == type_of c.kind) o false) (ap (slice_get columns) (eqb-true p place e) ∙ at)) ∙ is)
 
 keys_fit : (source : List ℕ) (columns : List TableColumn) (places : List ℕ) (key : List Value) (place : ℕ) (cs : List TableColumn) → are_typed columns places key ≡ true
     → ((i : ℕ) → slice_get columns (place + i) ≡ slice_get cs i) → fits_columns (map (declared_column source) cs) (key_values places key place cs) ≡ true
 keys_fit source columns places key place [] typed at = refl
 keys_fit source columns places key place (c ∷ cs) typed at =
-    and_true (fits_one (key_value places key place) (type_of c.kind)) (fits_columns (map (declared_column source) cs) (key_values places key (place + 1) cs))
+    and_from (fits_one (key_value places key place) (type_of c.kind)) (fits_columns (map (declared_column source) cs) (key_values places key (place + 1) cs))
     (key_fits columns places key place c typed (ap (slice_get columns) (here place) ∙ at 0))
     (keys_fit source columns places key (place + 1) cs typed (λ i. ap (slice_get columns) (next place i) ∙ at (suc i)))
   where
@@ -126,7 +123,7 @@ side_fits : (source : List ℕ) (t : Table) (key : List Value) (row : Option (Li
 side_fits source t key (Some vs) keyed fit = row_fits source t.columns vs (fit vs refl)
 side_fits source t key None keyed fit =
     keys_fit source t.columns t.key_columns key 0 t.columns
-    (both (has_key t) (are_typed t.columns t.key_columns key) (both (nat_le (weight key) 200) (has_key t && are_typed t.columns t.key_columns key) keyed).1).1
+    (and_parts (has_key t) (are_typed t.columns t.key_columns key) (and_parts (nat_le (weight key) 200) (has_key t && are_typed t.columns t.key_columns key) keyed).1).1
     (λ i. ap (slice_get t.columns) (first i))
   where
     first : (i : ℕ) → 0 + i ≡ i
@@ -148,12 +145,6 @@ shown_fits source t key period row keyed fit =
 abbrev FitsStamp : Parts → Table → ℕ → Type 0
 FitsStamp p t stamp = FitsTable t (values_with p stamp)
 
-some_same : {A : Type 0} (x y : A) → Some x ≡ Some y → x ≡ y
-some_same x y e = cc
-
-none_some : {A : Type 0} (x : A) → (let none : Option A = None in none) ≡ Some x → ⊥
-none_some x e = cc
-
 -- records that keep the rules, and a table of them
 record Asks (p : Parts) (t : Table) : Type 0 where
   rules : keep_rules p ≡ true
@@ -166,7 +157,7 @@ next_of p t asks = (ruled p asks.rules).counters.next_stamp
 cells_key : (p : Parts) (t : Table) (cells : CellRange) → Asks p t → are_cells (table_of p.tables) cells ≡ true → cells.table ≡ t.number → is_key_of cells.key t ≡ true
 cells_key p t cells asks are same =
     sym (ap (λ (o : Option Table). option_map_or (is_key_of cells.key) o false) (ap (table_of p.tables) same ∙ asks.there))
-    ∙ (both (nat_lt cells.from cells.till && nat_le cells.till END) (option_map_or (is_key_of cells.key) (table_of p.tables cells.table) false) are).1
+    ∙ (and_parts (nat_lt cells.from cells.till && nat_le cells.till END) (option_map_or (is_key_of cells.key) (table_of p.tables cells.table) false) are).1
 
 -- and the row of a stamp that stands there is one of its rows
 cells_row : (p : Parts) (t : Table) (cells : CellRange) (stamp : ℕ) (asks : Asks p t) → option_map_or (is_row_at (table_of p.tables) cells) (row_of p.rows stamp) false ≡ true → cells.table ≡ t.number
@@ -178,15 +169,15 @@ cells_row p t cells stamp asks at same vs is = by_row (row_of p.rows stamp) refl
 
     of_table : (r : RowRecord) → row_of p.rows stamp ≡ Some r → is_row_at (table_of p.tables) cells r ≡ true → fit_columns t.columns r.values ≡ true
     of_table r found there =
-        let here : r.table ≡ t.number = eqb-true r.table cells.table (both (r.table == cells.table) _ there).0 ∙ same in
-        let passed = (found-passes (λ (r : RowRecord). r.stamp == stamp) (is_row (table_of p.tables) next) p.rows r found (both (differ _ p.rows) _ (ruled p asks.rules).rows).1).1 in
-        (both (fit_columns t.columns r.values) _
-        (sym (ap (λ (o : Option Table). option_map_or (is_row_of r.values) o false) (ap (table_of p.tables) here ∙ asks.there)) ∙ (both (nat_lt r.stamp next) _ passed).1)).0
+        let here : r.table ≡ t.number = eqb-true r.table cells.table (and_parts (r.table == cells.table) _ there).0 ∙ same in
+        let passed = (found-passes (λ (r : RowRecord). r.stamp == stamp) (is_row (table_of p.tables) next) p.rows r found (and_parts (differ _ p.rows) _ (ruled p asks.rules).rows).1).1 in
+        (and_parts (fit_columns t.columns r.values) _
+        (sym (ap (λ (o : Option Table). option_map_or (is_row_of r.values) o false) (ap (table_of p.tables) here ∙ asks.there)) ∙ (and_parts (nat_lt r.stamp next) _ passed).1)).0
 
     by_row : (o : Option RowRecord) → row_of p.rows stamp ≡ o → option_map_or (is_row_at (table_of p.tables) cells) o false ≡ true → option_map (λ (r : RowRecord). r.values) o ≡ Some vs
         → fit_columns t.columns vs ≡ true
-    by_row None found there e = absurd (none_some vs e)
-    by_row (Some r) found there e = ap (fit_columns t.columns) (sym (some_same r.values vs e)) ∙ of_table r found there
+    by_row None found there e = absurd (none-some vs e)
+    by_row (Some r) found there e = ap (fit_columns t.columns) (sym (same_Some r.values vs e)) ∙ of_table r found there
 
 -- what is held at a cell of the table: its key is one of the table's, and its row, where it is not gone, one of its rows
 abbrev Suits : Parts → Table → Cell → Option Held → Type 0
@@ -198,18 +189,18 @@ piece_suits : (p : Parts) (t : Table) (x : PieceRecord) (version : ℕ) (c : Cel
 piece_suits p t x version c asks of is = by_test (covers_at x version c) refl
   where
     cells : (are_cells (table_of p.tables) x.cells ≡ true) × ((nat_lt x.stamp (next_of p t asks) && (x.gone || option_map_or (is_row_at (table_of p.tables) x.cells) (row_of p.rows x.stamp) false)) ≡ true)
-    cells = both (are_cells (table_of p.tables) x.cells) _ (both (is_some (version_of p.versions x.version)) _ is).1
+    cells = and_parts (are_cells (table_of p.tables) x.cells) _ (and_parts (is_some (version_of p.versions x.version)) _ is).1
 
     row_there : x.gone ≡ false → option_map_or (is_row_at (table_of p.tables) x.cells) (row_of p.rows x.stamp) false ≡ true
     row_there stands =
         sym (ap (λ g. g || option_map_or (is_row_at (table_of p.tables) x.cells) (row_of p.rows x.stamp) false) stands)
-        ∙ (both (nat_lt x.stamp (next_of p t asks)) (x.gone || option_map_or (is_row_at (table_of p.tables) x.cells) (row_of p.rows x.stamp) false) cells.1).1
+        ∙ (and_parts (nat_lt x.stamp (next_of p t asks)) (x.gone || option_map_or (is_row_at (table_of p.tables) x.cells) (row_of p.rows x.stamp) false) cells.1).1
 
     place : covers_at x version c ≡ true → (x.cells.table ≡ t.number) × (x.cells.key ≡ c.key)
     place e =
-        let a = both (x.version == version) _ e in
-        let b = both ((x.cells.table == c.table) && is_eq (key_order x.cells.key c.key)) _ a.1 in
-        let d = both (x.cells.table == c.table) (is_eq (key_order x.cells.key c.key)) b.0 in
+        let a = and_parts (x.version == version) _ e in
+        let b = and_parts ((x.cells.table == c.table) && is_eq (key_order x.cells.key c.key)) _ a.1 in
+        let d = and_parts (x.cells.table == c.table) (is_eq (key_order x.cells.key c.key)) b.0 in
         (eqb-true x.cells.table c.table d.0 ∙ of, key_same x.cells.key c.key d.1)
 
     by_test : (b : Bool) → covers_at x version c ≡ b → Suits p t c (then_some b (held_by x))
@@ -226,11 +217,11 @@ stored_suits : (p : Parts) (t : Table) (pieces : List PieceRecord) (version : �
     → list_all (is_piece (table_of p.tables) (version_of p.versions) (row_of p.rows) (next_of p t asks)) pieces ≡ true → Suits p t c (stored_at pieces version c)
 stored_suits p t [] version c asks of all = tt
 stored_suits p t (x ∷ xs) version c asks of all =
-    let h = both (is_piece (table_of p.tables) (version_of p.versions) (row_of p.rows) (next_of p t asks) x) _ all in
+    let h = and_parts (is_piece (table_of p.tables) (version_of p.versions) (row_of p.rows) (next_of p t asks) x) _ all in
     or_suits p t c (then_some (covers_at x version c) (held_by x)) (stored_at xs version c) (piece_suits p t x version c asks of h.0) (stored_suits p t xs version c asks of h.1)
 
 all_suit : (p : Parts) (t : Table) (version : ℕ) (c : Cell) → Asks p t → c.table ≡ t.number → Suits p t c (stored_at p.pieces version c)
-all_suit p t version c asks of = stored_suits p t p.pieces version c asks of (both (differ _ p.pieces) _ (ruled p asks.rules).pieces).1
+all_suit p t version c asks of = stored_suits p t p.pieces version c asks of (and_parts (differ _ p.pieces) _ (ruled p asks.rules).pieces).1
 
 seen_suits : (p : Parts) (t : Table) (nodes : _) (version : ℕ) (c : Cell) → Asks p t → c.table ≡ t.number → Suits p t c (seen_at p.pieces nodes version c)
 seen_suits p t [] version c asks of = tt
@@ -264,26 +255,26 @@ record AreSuited (t : Table) (key : List Value) (rows : SideRows) : Type 0 where
   child : FitsTable t rows.child
 
 standing_fits : (p : Parts) (t : Table) (c : Cell) (o : Option Held) → Suits p t c o → FitsTable t (option_and_then (values_with p) (option_and_then standing o))
-standing_fits p t c None suits vs e = absurd (none_some vs e)
+standing_fits p t c None suits vs e = absurd (none-some vs e)
 standing_fits p t c (Some h) suits vs e = by_gone h.gone refl e
   where
     by_gone : (g : Bool) → h.gone ≡ g → option_and_then (values_with p) (then_some (not g) h.stamp.number) ≡ Some vs → fit_columns t.columns vs ≡ true
-    by_gone true is e = absurd (none_some vs e)
+    by_gone true is e = absurd (none-some vs e)
     by_gone false is e = suits.1 is vs e
 
 held_key : (p : Parts) (t : Table) (c : Cell) (o : Option Held) → Suits p t c o → is_some o ≡ true → is_key_of c.key t ≡ true
-held_key p t c None suits some = absurd (bool_apart (sym some))
+held_key p t c None suits some = absurd (true≢false (sym some))
 held_key p t c (Some h) suits some = suits.0
 
 given_parts : {A : Type 0} (b : Bool) (x y : A) → then_some b x ≡ Some y → (b ≡ true) × (x ≡ y)
-given_parts true x y e = (refl, some_same x y e)
-given_parts false x y e = absurd (none_some y e)
+given_parts true x y e = (refl, same_Some x y e)
+given_parts false x y e = absurd (none-some y e)
 
 -- where both changed a cell of the table, they are
 clash_suits : (p : Parts) (t : Table) (a b : Space) (c : Cell) (x : Stamps) → Asks p t → c.table ≡ t.number → clash_held p a b c ≡ Some x → AreSuited t c.key (rows_with p x)
 clash_suits p t a b c x asks of held =
     let given = given_parts (is_some (own_held p a c) && (is_pending p a b c && is_unsettled p a b c)) (stamps_of p a b c) x held in
-    let own = both (is_some (own_held p a c)) (is_pending p a b c && is_unsettled p a b c) given.0 in
+    let own = and_parts (is_some (own_held p a c)) (is_pending p a b c && is_unsettled p a b c) given.0 in
     subst (λ (s : Stamps). AreSuited t c.key (rows_with p s)) given.1 (record {
       keyed = held_key p t c (own_held p a c) (own_suits p t (newest_first p.versions) a.base_version (latest p a.number) c asks of) own.0;
       base = standing_fits p t c (seen p a.base_version c) (seen_suits p t (newest_first p.versions) a.base_version c asks of);
@@ -300,13 +291,9 @@ conflict_row_fits source t key period name based row keyed fit =
 conflict_rows_fit : (source : List ℕ) (t : Table) (key : List Value) (period : Span) (parent child : List ℕ) (rows : SideRows) → AreSuited t key rows
     → list_all (fits (columns_of_view Conflicts source t)) (conflict_rows t key period parent child rows) ≡ true
 conflict_rows_fit source t key period parent child rows are =
-    and_true _ _ (conflict_row_fits source t key period (codes "BASE") false rows.base are.keyed are.base)
-    (and_true _ _ (conflict_row_fits source t key period parent (is_some rows.base) rows.parent are.keyed are.parent)
-    (and_true _ true (conflict_row_fits source t key period child (is_some rows.base) rows.child are.keyed are.child) refl))
-
-all_append : {A : Type 0} (P : A → Bool) (xs ys : List A) → list_all P xs ≡ true → list_all P ys ≡ true → list_all P (xs ++ ys) ≡ true
-all_append P [] ys one two = two
-all_append P (x ∷ xs) ys one two = let h = both (P x) (list_all P xs) one in and_true (P x) (list_all P (xs ++ ys)) h.0 (all_append P xs ys h.1 two)
+    and_from _ _ (conflict_row_fits source t key period (codes "BASE") false rows.base are.keyed are.base)
+    (and_from _ _ (conflict_row_fits source t key period parent (is_some rows.base) rows.parent are.keyed are.parent)
+    (and_from _ true (conflict_row_fits source t key period child (is_some rows.base) rows.child are.keyed are.child) refl))
 
 all_flat : {A B : Type 0} (P : B → Bool) (F : A → List B) (xs : List A) → AllByRecursion (λ x. list_all P (F x) ≡ true) xs → list_all P (flat_map F xs) ≡ true
 all_flat P F [] all = refl
@@ -355,15 +342,15 @@ hist_suits : (p : Parts) (t : Table) (x : Hist) (asks : Asks p t) → x.cells.ta
 hist_suits p t x asks of is = (cells_key p t x.cells asks cells.0 of, by_gone x.gone refl)
   where
     cells : (are_cells (table_of p.tables) x.cells ≡ true) × ((nat_lt x.stamp (next_of p t asks) && (x.gone || option_map_or (is_row_at (table_of p.tables) x.cells) (row_of p.rows x.stamp) false)) ≡ true)
-    cells = both (are_cells (table_of p.tables) x.cells) _ (both (is_short x.user && option_map_or (λ (s : Space). nat_lt x.position s.log_length) (space_of p.spaces x.space) false) _ is).1
+    cells = and_parts (are_cells (table_of p.tables) x.cells) _ (and_parts (is_short x.user && option_map_or (λ (s : Space). nat_lt x.position s.log_length) (space_of p.spaces x.space) false) _ is).1
 
     row_there : x.gone ≡ false → option_map_or (is_row_at (table_of p.tables) x.cells) (row_of p.rows x.stamp) false ≡ true
     row_there stands =
         sym (ap (λ g. g || option_map_or (is_row_at (table_of p.tables) x.cells) (row_of p.rows x.stamp) false) stands)
-        ∙ (both (nat_lt x.stamp (next_of p t asks)) (x.gone || option_map_or (is_row_at (table_of p.tables) x.cells) (row_of p.rows x.stamp) false) cells.1).1
+        ∙ (and_parts (nat_lt x.stamp (next_of p t asks)) (x.gone || option_map_or (is_row_at (table_of p.tables) x.cells) (row_of p.rows x.stamp) false) cells.1).1
 
     by_gone : (g : Bool) → x.gone ≡ g → FitsTable t (if g then None else values_with p x.stamp)
-    by_gone true e vs is = absurd (none_some vs is)
+    by_gone true e vs is = absurd (none-some vs is)
     by_gone false e vs is = cells_row p t x.cells x.stamp asks (row_there e) of vs is
 
 -- entries that follow one another are found by their positions
@@ -401,15 +388,15 @@ logged_suits p n t xs asks are = each_if (λ (x : Hist). at_position xs x.positi
     suits x found =
         let passed =
         found-passes (λ (y : Hist). (y.space == n) && ((y.cells.table == t.number) && (y.position == x.position))) (is_hist (table_of p.tables) (space_of p.spaces) (row_of p.rows) (next_of p t asks)) p.hists x
-        (sym (are.same x.position) ∙ found) (both (differ _ p.hists) _ (ruled p asks.rules).hists).1 in
-        let placed = both (x.cells.table == t.number) (x.position == x.position) (both (x.space == n) _ passed.0).1 in
+        (sym (are.same x.position) ∙ found) (and_parts (differ _ p.hists) _ (ruled p asks.rules).hists).1 in
+        let placed = and_parts (x.cells.table == t.number) (x.position == x.position) (and_parts (x.space == n) _ passed.0).1 in
         hist_suits p t x asks (eqb-true x.cells.table t.number placed.0) passed.1
 
 events_fit : (p : Parts) (source workspace : List ℕ) (t : Table) (xs : List Hist) → AllByRecursion (λ (x : Hist). IsOfTable t (event_by p x)) xs
     → list_all (fits (columns_of_view History source t)) (history_rows workspace t (map (event_by p) xs)) ≡ true
 events_fit p source workspace t [] all = refl
 events_fit p source workspace t (x ∷ xs) all =
-    and_true _ _ (history_row_fits source workspace t (event_by p x) (retired (event_by p x) (map (event_by p) xs)) all.0.0 all.0.1) (events_fit p source workspace t xs all.1)
+    and_from _ _ (history_row_fits source workspace t (event_by p x) (retired (event_by p x) (map (event_by p) xs)) all.0.0 all.0.1) (events_fit p source workspace t xs all.1)
 
 pub history_fits : (p : Parts) (a : Space) (t : Table) (source : List ℕ) (rows : List Row) → keep_rules p ≡ true → table_of p.tables t.number ≡ Some t → IsHistoryView p a t rows
     → list_all (fits (columns_of_view History source t)) rows ≡ true

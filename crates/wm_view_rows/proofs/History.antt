@@ -1,6 +1,7 @@
 -- What the history of a table shows by the records of a log is what it shows by the log.
 use Rattle.std.proofs.Common.{◌≡◌, ◌≢◌, ℕ, zero, suc, ◌+◌, ◌-◌, ◌<◌, ◌≤◌, ◌==◌, Bool, true, false, cond, not, ◌&&◌, List, [], ◌∷◌, map, Option, Some, None, is_none, refl, sym, ap, subst, ◌∙◌, ◌⊎◌, inl, inr, arith}
-use Rattle.std.proofs.lemmas.Bool.{cases_eq, eq-eqb, ne_eqb, eqb-true}
+use Rattle.std.proofs.lemmas.Bool.{cases_eq, eq-eqb, ne_eqb, eqb-true, and_parts, not-true, or_parts, true≢false}
+use Rattle.std.proofs.lemmas.Option.{same_Some, none-some}
 use Rattle.std.specs.Bool.{then_some}
 use Rattle.std.specs.List.{filter, find, list_any, slice_get}
 use Rattle.std.specs.Option.{option_and_then, option_map, option_map_or}
@@ -18,7 +19,6 @@ use Rattle.wm_state.proofs.Apart.{ruled}
 use Rattle.wm_state.proofs.Logging.{all_at, log_of-found}
 use Rattle.wm_state.proofs.Ready.{tables_found}
 use Rattle.wm_state.proofs.Spaces.{SpaceIs, space_is}
-use Rattle.wm_state.proofs.Tests.{bool_apart, both, either_false, not_true}
 use Rattle.wm_view_rows.specs.Conflicts.{values_with}
 use Rattle.wm_view_rows.specs.History.{Follow, IsHistoryView, event_by, event_of, history_view}
 use Rattle.wm_view_rows.specs.Rows.{Event, history_rows}
@@ -51,15 +51,15 @@ apart_from x y n position apart space place = by_tests (y.space == n) refl (y.po
 none_beside : (n position : ℕ) (x : Hist) (xs : List Hist) → list_any (same_position x) xs ≡ false → x.space ≡ n → x.position ≡ position → hist_at xs n position ≡ None
 none_beside n position x [] apart space place = refl
 none_beside n position x (y ∷ ys) apart space place =
-    let h = either_false (same_position x y) (list_any (same_position x) ys) apart in
+    let h = or_parts (same_position x y) (list_any (same_position x) ys) apart in
     ap (λ b. cond b (Some y) (hist_at ys n position)) (apart_from x y n position h.0 space place) ∙ none_beside n position x ys h.1 space place
 
 -- that of the table is it, where it is of the table
 one_on : (n table position : ℕ) (xs : List Hist) → differ same_position xs ≡ true → hist_on xs n table position ≡ hist_picked table (hist_at xs n position)
 one_on n table position [] differs = refl
 one_on n table position (x ∷ xs) differs =
-    let h = both (not (list_any (same_position x) xs)) (differ same_position xs) differs in
-    by_tests (x.space == n) refl (x.position == position) refl (x.cells.table == table) refl (not_true _ h.0) (one_on n table position xs h.1)
+    let h = and_parts (not (list_any (same_position x) xs)) (differ same_position xs) differs in
+    by_tests (x.space == n) refl (x.position == position) refl (x.cells.table == table) refl (not-true _ h.0) (one_on n table position xs h.1)
   where
     by_tests : (s : Bool) → (x.space == n) ≡ s → (q : Bool) → (x.position == position) ≡ q → (b : Bool) → (x.cells.table == table) ≡ b → list_any (same_position x) xs ≡ false
         → hist_on xs n table position ≡ hist_picked table (hist_at xs n position)
@@ -107,16 +107,13 @@ same_at p tables table o (Some e) history same has = by_tests (has_history table
     by_tests : (h : Bool) → has_history tables e.table ≡ h → (b : Bool) → (e.table == table) ≡ b → (o : Option Hist) → option_map logged o ≡ then_some h (logged_as e)
         → option_map (event_by p) (hist_picked table o) ≡ option_map event_of (then_some b e)
     by_tests true kept b is None same = cc
-    by_tests false kept true is None same = absurd (bool_apart (sym history ∙ ap (has_history tables) (sym (eqb-true e.table table is)) ∙ kept))
+    by_tests false kept true is None same = absurd (true≢false (sym history ∙ ap (has_history tables) (sym (eqb-true e.table table is)) ∙ kept))
     by_tests false kept false is None same = refl
     by_tests false kept b is (Some x) same = cc
     by_tests true kept b is (Some x) same = ap (λ c. option_map (event_by p) (then_some c x)) (ap (λ n. n == table) (ap (λ (l : Logged). l.cells.table) equal) ∙ is) ∙ told b
       where
-        some_same : (l m : Logged) → Some l ≡ Some m → l ≡ m
-        some_same l m e = cc
-
         equal : logged x ≡ logged_as e
-        equal = some_same (logged x) (logged_as e) same
+        equal = same_Some (logged x) (logged_as e) same
 
         told : (b : Bool) → option_map (event_by p) (then_some b x) ≡ option_map event_of (then_some b e)
         told true = ap Some (same_event p x e equal (has e refl kept))
@@ -162,12 +159,9 @@ first_of k (x ∷ xs) ascend = by_position (cases_eq x.position k)
 abbrev Same : Parts → ℕ → ℕ → List Hist → List Entry → Type 0
 Same p table k xs es = (i : ℕ) → option_map (event_by p) (at (k + i) xs) ≡ option_map event_of (picked table (slice_get es i))
 
-some_none : {A : Type 0} (x : A) → Some x ≡ None → ⊥
-some_none x e = cc
-
 none_left : (p : Parts) (table k : ℕ) (xs : List Hist) → AscendFrom k xs → Same p table k xs [] → xs ≡ []
 none_left p table k [] ascend same = refl
-none_left p table k (x ∷ xs) ascend same = absurd (some_none (event_by p x) (sym (ap (λ b. option_map (event_by p) (cond b (Some x) (at (k + (x.position - k)) xs))) here) ∙ same (x.position - k)))
+none_left p table k (x ∷ xs) ascend same = absurd (none-some (event_by p x) (sym (sym (ap (λ b. option_map (event_by p) (cond b (Some x) (at (k + (x.position - k)) xs))) here) ∙ same (x.position - k))))
   where
     here : (x.position == (k + (x.position - k))) ≡ true
     here = eq-eqb x.position (k + (x.position - k)) (let le = ascend.0 in omega (arith, le))
@@ -193,9 +187,6 @@ all_same p table k (e ∷ es) xs ascend same = by_first (all_same p table (k + 1
         start : k ≡ k + zero
         start = omega arith
 
-    some_same : (a b : Event) → Some a ≡ Some b → a ≡ b
-    some_same a b e = cc
-
     by_first : Rest → (xs : List Hist) → First k xs → Same p table k xs (e ∷ es) → map (event_by p) xs ≡ map event_of (filter (λ (d : Entry). d.table == table) (e ∷ es))
     by_first rest xs (Here x ys here ascend) same =
         by_table (e.table == table) (sym (ap (λ b. option_map (event_by p) (cond b (Some x) (at k ys))) (eq-eqb x.position k here)) ∙ first (x ∷ ys) same)
@@ -203,14 +194,14 @@ all_same p table k (e ∷ es) xs ascend same = by_first (all_same p table (k + 1
       where
         by_table : (b : Bool) → Some (event_by p x) ≡ option_map event_of (then_some b e) → map (event_by p) ys ≡ map event_of (filter (λ (d : Entry). d.table == table) es)
             → event_by p x ∷ map (event_by p) ys ≡ map event_of (cond b (e ∷ filter (λ (d : Entry). d.table == table) es) (filter (λ (d : Entry). d.table == table) es))
-        by_table true told rest = ap (λ d. d ∷ map (event_by p) ys) (some_same (event_by p x) (event_of e) told) ∙ ap (λ ds. event_of e ∷ ds) rest
-        by_table false told rest = absurd (some_none (event_by p x) told)
+        by_table true told rest = ap (λ d. d ∷ map (event_by p) ys) (same_Some (event_by p x) (event_of e) told) ∙ ap (λ ds. event_of e ∷ ds) rest
+        by_table false told rest = absurd (none-some (event_by p x) (sym told))
     by_first rest xs (Behind ys none ascend) same =
         by_table (e.table == table) (sym (ap (option_map (event_by p)) none) ∙ first ys same) (rest ys ascend (shifted ys ys (λ i. ap (λ q. at q ys) (next i)) same))
       where
         by_table : (b : Bool) → None ≡ option_map event_of (then_some b e) → map (event_by p) ys ≡ map event_of (filter (λ (d : Entry). d.table == table) es)
             → map (event_by p) ys ≡ map event_of (cond b (e ∷ filter (λ (d : Entry). d.table == table) es) (filter (λ (d : Entry). d.table == table) es))
-        by_table true told rest = absurd (some_none (event_of e) (sym told))
+        by_table true told rest = absurd (none-some (event_of e) (sym (sym told)))
         by_table false told rest = rest
 
 -- ---- the view
@@ -223,14 +214,11 @@ history_view_is p d n w a t rows st found recorded there history view =
     ∙ ap (λ (f : SpaceFields). history_rows f.name t (map (event_by p) view.logged)) fields
     ∙ ap (history_rows w.name t) (all_same p t.number 0 w.lists.log view.logged (ascend_all view.logged view.are_logged.follow) same)
   where
-    space_same : (x y : Workspace) → Some x ≡ Some y → x ≡ y
-    space_same x y e = cc
-
     space : SpaceIs p d n a
     space = space_is p d n a st recorded
 
     fields : fields_of a ≡ fields_in w
-    fields = space.is.fields ∙ ap fields_in (space_same space.workspace w (sym space.is.found ∙ found))
+    fields = space.is.fields ∙ ap fields_in (same_Some space.workspace w (sym space.is.found ∙ found))
 
     kept : has_history d.tables t.number ≡ true
     kept = ap (λ (o : Option Table). option_map_or (λ (u : Table). u.history) o false) (tables_found p d st.tables t.number ∙ there) ∙ history
@@ -239,7 +227,7 @@ history_view_is p d n w a t rows st found recorded there history view =
     log = log_of-found d.spaces n w found
 
     differs : differ same_position p.hists ≡ true
-    differs = (both (differ same_position p.hists) _ (ruled p st.rules).hists).0
+    differs = (and_parts (differ same_position p.hists) _ (ruled p st.rules).hists).0
 
     same : Same p t.number 0 view.logged w.lists.log
     same i =

@@ -1,15 +1,10 @@
 -- The key among NULLs, one column after another; and what is pushed one after another.
-use Rattle.std.proofs.Common.{◌≡◌, ℕ, zero, suc, ◌+◌, ◌<◌, ◌==◌, true, false, if◌then◌else◌, List, [], ◌∷◌, ◌++◌, drop, length, get_or, slice_get, Option, Some, None, refl, sym, ap, ◌∙◌, arith, append_assoc}
+use Rattle.std.proofs.Common.{◌≡◌, ℕ, zero, suc, ◌+◌, ◌<◌, ◌==◌, true, false, if◌then◌else◌, List, [], ◌∷◌, ◌++◌, drop, length, get_or, slice_get, Some, None, refl, sym, ap, ◌∙◌, arith, append_assoc}
+use Rattle.std.proofs.lemmas.Option.{same_Some, none-some}
 use Rattle.wm_base.specs.declared.value.Value.{Value}
 use Rattle.wm_base.specs.declared.value.Value.TheVariants as values
 use Rattle.wm_spec.specs.declared.record.column.TableColumn.{TableColumn}
 use Rattle.wm_view_rows.specs.Rows.{key_value, key_values}
-
-none_some : (v : Value) → (let none : Option Value = None in none) ≡ Some v → ⊥
-none_some v e = cc
-
-some_same : (v w : Value) → Some v ≡ Some w → v ≡ w
-some_same v w e = cc
 
 -- ---- the value of a key in a column, from a place of its columns on
 
@@ -17,8 +12,8 @@ some_same v w e = cc
 pub key_here : (places : List ℕ) (key : List Value) (i place : ℕ) (v : Value) → i < length places → (get_or places i 0 == place) ≡ true → slice_get key i ≡ Some v
     → key_value (drop i places) (drop i key) place ≡ v
 key_here [] key i place v less at is = absurd (omega (arith, less))
-key_here (p ∷ places) [] i place v less at is = absurd (none_some v is)
-key_here (p ∷ places) (w ∷ key) zero place v less at is = ap (λ b. if b then w else key_value places key place) at ∙ some_same w v is
+key_here (p ∷ places) [] i place v less at is = absurd (none-some v is)
+key_here (p ∷ places) (w ∷ key) zero place v less at is = ap (λ b. if b then w else key_value places key place) at ∙ same_Some w v is
 key_here (p ∷ places) (w ∷ key) (suc i) place v less at is = key_here places key i place v (omega (arith, less)) at is
 
 -- where there is none, it is NULL
@@ -37,7 +32,7 @@ key_short (p ∷ places) [] (suc i) place is = ended (drop i places) place
     ended : (ps : List ℕ) (place : ℕ) → key_value ps [] place ≡ values.Null
     ended [] place = refl
     ended (p ∷ ps) place = refl
-key_short (p ∷ places) (w ∷ key) zero place is = absurd (none_some w (sym is))
+key_short (p ∷ places) (w ∷ key) zero place is = absurd (none-some w (sym is))
 key_short (p ∷ places) (w ∷ key) (suc i) place is = key_short places key i place is
 
 next : (places : List ℕ) (key : List Value) (i place : ℕ) → i < length places → (get_or places i 0 == place) ≡ false

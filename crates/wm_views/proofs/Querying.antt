@@ -1,8 +1,9 @@
 -- What the code looks up for a session is what the records say.
-use Rattle.std.proofs.Common.{arith, ◌≡◌, ℕ, ◌<◌, ◌==◌, ◌&&◌, nat_lt, Bool, true, false, if◌then◌else◌, List, Option, Some, None, Bor, is_some, unwrap_or, refl, sym, ap, subst, ◌∙◌}
-use Rattle.std.proofs.lemmas.Bool.{eq-eqb}
+use Rattle.std.proofs.Common.{◌≡◌, ℕ, ◌<◌, ◌==◌, ◌&&◌, nat_lt, Bool, true, false, if◌then◌else◌, List, Option, Some, None, Bor, is_some, unwrap_or, refl, sym, ap, subst, ◌∙◌}
+use Rattle.std.proofs.lemmas.Bool.{eq-eqb, and_parts, true≢false}
 use Rattle.std.specs.Option.{option_copied}
 use Rattle.std.specs.Str.{bytes_eq}
+use Rattle.wm_base.proofs.Plain.{copied_some, nonzero}
 use Rattle.wm_base.specs.declared.columns.Column.{Column}
 use Rattle.wm_base.specs.declared.refusal.Refusal.{Refusal}
 use Rattle.wm_base.specs.Trees.{Query}
@@ -14,7 +15,6 @@ use Rattle.wm_state.proofs.Apart.{found-passes}
 use Rattle.wm_state.proofs.Mapped.{find-again}
 use Rattle.wm_state.proofs.Named.{space_number}
 use Rattle.wm_state.proofs.Spaces.{ruled_spaces}
-use Rattle.wm_state.proofs.Tests.{bool_apart, both}
 use Rattle.wm_state.specs.State.{Session}
 use Rattle.wm_telling.specs.Telling.{AreFamily}
 use Rattle.wm_typing.specs.Asking.{query_fault}
@@ -48,27 +48,19 @@ conflicting_there p (Some name) home rules there = by_record (space_named name p
 
 -- the parent of a workspace other than LIVE has a record
 parent_recorded : (p : Parts) (a : Space) → keep_rules p ≡ true → 0 < a.number → space_of p.spaces a.number ≡ Some a → is_some (space_of p.spaces a.parent) ≡ true
-parent_recorded p a rules child found = by_live (a.number == 0) (not_live a.number child) placed
+parent_recorded p a rules child found = by_live (a.number == 0) (nonzero a.number child) placed
   where
-    not_live : (k : ℕ) → 0 < k → (k == 0) ≡ false
-    not_live k lt = grind (arith, lt)
-
     placed : is_placed (space_of p.spaces) a ≡ true
     placed =
         let w = found-passes (λ (x : Space). x.number == a.number) (is_space (space_of p.spaces)) p.spaces a found (ruled_spaces p rules).each in
-        (both (is_placed (space_of p.spaces) a) (is_short a.name && is_short a.writer) (both (is_placed (space_of p.spaces) a && (is_short a.name && is_short a.writer)) _ w.1).0).0
+        (and_parts (is_placed (space_of p.spaces) a) (is_short a.name && is_short a.writer) (and_parts (is_placed (space_of p.spaces) a && (is_short a.name && is_short a.writer)) _ w.1).0).0
 
     by_live : (b : Bool) → b ≡ false → (if b then bytes_eq a.name live else nat_lt a.parent a.number && is_some (space_of p.spaces a.parent)) ≡ true → is_some (space_of p.spaces a.parent) ≡ true
-    by_live true is_live is = absurd (bool_apart is_live)
-    by_live false is_live is = (both (nat_lt a.parent a.number) (is_some (space_of p.spaces a.parent)) is).1
-
--- it is found
-same_copied : {A : Type 0} (r : Option (Bor A)) (o : Option A) → option_copied r ≡ o → is_some o ≡ true → is_some r ≡ true
-same_copied None o is some = ap is_some is ∙ some
-same_copied (Some x) o is some = refl
+    by_live true is_live is = absurd (true≢false is_live)
+    by_live false is_live is = (and_parts (nat_lt a.parent a.number) (is_some (space_of p.spaces a.parent)) is).1
 
 pub parent_found : (p : Parts) (a : Space) (r : Option (Bor Space)) → keep_rules p ≡ true → 0 < a.number → space_of p.spaces a.number ≡ Some a → option_copied r ≡ space_of p.spaces a.parent → is_some r ≡ true
-parent_found p a r rules child there found = same_copied r (space_of p.spaces a.parent) found (parent_recorded p a rules child there)
+parent_found p a r rules child there found = copied_some r (space_of p.spaces a.parent) found (parent_recorded p a rules child there)
 
 -- the two are a family
 pub are_family : (p : Parts) (m : ℕ) (session : Session) (look : Look) (x : Space × Space) → keep_rules p ≡ true → IsLook p m session look → look.family ≡ Some x → AreFamily p x.0 x.1

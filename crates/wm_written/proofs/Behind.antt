@@ -1,9 +1,9 @@
 -- The parts of records with new ones behind them, and of those that a test of pieces and one of touches keep.
 use Rattle.std.proofs.Common.{◌≡◌, ℕ, ◌+◌, Bool, true, false, cond, List, [], ◌∷◌, ◌++◌, map, append_assoc, append-nil, refl, sym, ap, ◌∙◌}
 use Rattle.std.proofs.lemmas.List.{map-append}
-use Rattle.std.proofs.lemmas.List.Elements.{filter_map-append}
 use Rattle.std.specs.List.{filter}
-use Rattle.wm_graph.specs.Parts.{Parts, parts_in, parts_of, as_counters, as_table, as_space, as_version, as_savepoint, as_row, as_piece, as_touch, as_lock, as_hist, as_mark, as_turn}
+use Rattle.wm_graph.specs.Parts.{Parts, parts_in, parts_of}
+use Rattle.wm_graph.proofs.Joined.{joined, parts-append}
 use Rattle.wm_spec.specs.declared.record.Record.{Record}
 use Rattle.wm_spec.specs.declared.record.Record.TheVariants as records
 use Rattle.wm_spec.specs.declared.record.hist.Hist.{Hist}
@@ -37,43 +37,7 @@ put_behind id (r ∷ rs) ss under =
     ∙ put_behind (id + 1) rs (ss ++ stored id r ∷ []) (AllUnder-next id ss r under)
     ∙ append_assoc ss (stored id r ∷ []) (numbered (id + 1) rs)
 
--- each kind behind the same
-appended : Parts → Parts → Parts
-appended p q = record {
-  counters = p.counters ++ q.counters;
-  tables = p.tables ++ q.tables;
-  spaces = p.spaces ++ q.spaces;
-  versions = p.versions ++ q.versions;
-  savepoints = p.savepoints ++ q.savepoints;
-  rows = p.rows ++ q.rows;
-  pieces = p.pieces ++ q.pieces;
-  touches = p.touches ++ q.touches;
-  locks = p.locks ++ q.locks;
-  hists = p.hists ++ q.hists;
-  marks = p.marks ++ q.marks;
-  turns = p.turns ++ q.turns;
-}
-
-parts-append : (xs ys : List Record) → parts_in (xs ++ ys) ≡ appended (parts_in xs) (parts_in ys)
-unfolding appended
-parts-append xs ys =
-    rw (
-      filter_map-append as_counters xs ys,
-      filter_map-append as_table xs ys,
-      filter_map-append as_space xs ys,
-      filter_map-append as_version xs ys,
-      filter_map-append as_savepoint xs ys,
-      filter_map-append as_row xs ys,
-      filter_map-append as_piece xs ys,
-      filter_map-append as_touch xs ys,
-      filter_map-append as_lock xs ys,
-      filter_map-append as_hist xs ys,
-      filter_map-append as_mark xs ys,
-      filter_map-append as_turn xs ys,
-    )
-    refl
-
-parts-put : (id : ℕ) (rs : List Record) (ss : List Stored) → AllUnder id ss → parts_of (applied (put_all id rs) ss) ≡ appended (parts_of ss) (parts_in rs)
+parts-put : (id : ℕ) (rs : List Record) (ss : List Stored) → AllUnder id ss → parts_of (applied (put_all id rs) ss) ≡ joined (parts_of ss) (parts_in rs)
 unfolding parts_of
 parts-put id rs ss under =
     ap parts_of (put_behind id rs ss under)
@@ -112,9 +76,9 @@ parts-new rows pieces touches hists =
     ∙ ap (λ (p : Parts). record p { rows = rows ++ p.rows; pieces = pieces ++ p.pieces; touches = touches ++ p.touches }) (parts-hists hists)
     ∙ rw (append-nil rows, append-nil pieces, append-nil touches) refl
 
-none_behind : (p : Parts) (rows : List RowRecord) (pieces : List PieceRecord) (touches : List Trace) (hists : List Hist) → appended p (record (parts_in []) { rows = rows; pieces = pieces; touches = touches; hists = hists })
+none_behind : (p : Parts) (rows : List RowRecord) (pieces : List PieceRecord) (touches : List Trace) (hists : List Hist) → joined p (record (parts_in []) { rows = rows; pieces = pieces; touches = touches; hists = hists })
     ≡ record p { rows = p.rows ++ rows; pieces = p.pieces ++ pieces; touches = p.touches ++ touches; hists = p.hists ++ hists }
-unfolding appended
+unfolding joined
 none_behind p rows pieces touches hists =
     rw (append-nil p.counters, append-nil p.tables, append-nil p.spaces, append-nil p.versions, append-nil p.savepoints, append-nil p.locks, append-nil p.marks, append-nil p.turns) refl
 
@@ -123,7 +87,7 @@ pub parts-entered : (id : ℕ) (rows : List RowRecord) (pieces : List PieceRecor
     → parts_of (applied (put_all id (new_records rows pieces touches hists)) ss)
     ≡ record (parts_of ss) { rows = (parts_of ss).rows ++ rows; pieces = (parts_of ss).pieces ++ pieces; touches = (parts_of ss).touches ++ touches; hists = (parts_of ss).hists ++ hists }
 parts-entered id rows pieces touches hists ss under =
-    parts-put id (new_records rows pieces touches hists) ss under ∙ ap (appended (parts_of ss)) (parts-new rows pieces touches hists) ∙ none_behind (parts_of ss) rows pieces touches hists
+    parts-put id (new_records rows pieces touches hists) ss under ∙ ap (joined (parts_of ss)) (parts-new rows pieces touches hists) ∙ none_behind (parts_of ss) rows pieces touches hists
 
 -- ---- marks
 
@@ -133,11 +97,11 @@ parts-marks (x ∷ xs) = ap (λ (p : Parts). record p { marks = x ∷ p.marks })
 
 -- they come behind the others too
 pub parts-marked : (id : ℕ) (marks : List Trace) (ss : List Stored) → AllUnder id ss → parts_of (applied (put_all id (map records.Mark marks)) ss) ≡ record (parts_of ss) { marks = (parts_of ss).marks ++ marks }
-unfolding appended
+unfolding joined
 parts-marked id marks ss under =
     let p : Parts = parts_of ss in
     parts-put id (map records.Mark marks) ss under
-    ∙ ap (appended p) (parts-marks marks)
+    ∙ ap (joined p) (parts-marks marks)
     ∙ rw (append-nil p.counters, append-nil p.tables, append-nil p.spaces, append-nil p.versions, append-nil p.savepoints, append-nil p.rows, append-nil p.pieces, append-nil p.touches, append-nil p.locks, append-nil p.hists, append-nil p.turns)
     refl
 

@@ -1,6 +1,7 @@
 -- What the batch that writes entries into the newest version of a workspace makes of the records.
-use Rattle.std.proofs.Common.{◌≡◌, ℕ, ◌+◌, ◌<◌, ◌≤◌, ◌^◌, ◌==◌, nat_lt, nat_le, true, false, List, [], ◌∷◌, ◌++◌, map, length, Option, Some, None, is_some, refl, sym, ap, subst, ◌∙◌, arith}
-use Rattle.std.proofs.lemmas.Bool.{ne_eqb}
+use Rattle.std.proofs.Common.{◌≡◌, ℕ, ◌+◌, ◌<◌, ◌≤◌, ◌^◌, ◌==◌, nat_lt, nat_le, true, false, List, [], ◌∷◌, ◌++◌, map, length, Option, Some, None, is_some, refl, sym, ap, subst, ◌∙◌, arith, le_refl}
+use Rattle.std.proofs.lemmas.Bool.{ne_eqb, and_from, and_parts, lt-ltb, true≢false}
+use Rattle.std.proofs.lemmas.Option.{same_Some}
 use Rattle.std.specs.List.{list_all}
 use Rattle.std.specs.Option.{option_map_or}
 use Rattle.std.specs.declared.alloc.Global.{Global}
@@ -34,10 +35,8 @@ use Rattle.wm_state.proofs.ByKind.{under_found}
 use Rattle.wm_state.proofs.Counting.{CountsAs, counts_as, counts_in, in_room, moved_well, stamped_by, work_grows}
 use Rattle.wm_state.proofs.Drafted.{some_edit}
 use Rattle.wm_state.proofs.Growing.{same_counters}
-use Rattle.wm_state.proofs.Named.{one_space}
 use Rattle.wm_state.proofs.RowsStay.{LeavesRows, away_append, away_dropped, away_put, row_apart, rows_stay}
 use Rattle.wm_state.proofs.Settled.{Places, PlacesApart, places_apart}
-use Rattle.wm_state.proofs.Tests.{bool_apart, both, and_true}
 use Rattle.wm_state.proofs.WorkedOn.{counted_put, first_change}
 use Rattle.wm_written.proofs.Behind.{new_records}
 use Rattle.wm_written.proofs.Ids.{are_under}
@@ -76,7 +75,7 @@ stamps_left p n table a c es v = ap (λ (d : Counters). nat_le (d.next_stamp + l
 -- and the log has room
 pub log_room : (p : Parts) (n table : ℕ) (a : Space) (c : Counters) (es : List Entry) → Appends p n a c table es → nat_le (a.log_length + length es) (2 ^ 62) ≡ true
 log_room p n table a c es v =
-    in_room (a.log_length + length es) (ap (λ (b : Space). nat_lt counter_limit (b.log_length + length es)) (one_space a v.can.space (sym v.there ∙ v.can.there)) ∙ v.can.short)
+    in_room (a.log_length + length es) (ap (λ (b : Space). nat_lt counter_limit (b.log_length + length es)) (same_Some a v.can.space (sym v.there ∙ v.can.there)) ∙ v.can.short)
 
 -- what the counters of a state are once entries are written
 pub counts_on : (s : Durable) (m work n : ℕ) (c d : Counters) (entries : Vec NewEntry Global) → CountsAs c s → d.next_stamp ≡ c.next_stamp + length (entries_in entries) → d.last_moment ≡ m → d.limit ≡ c.limit → d.work ≡ c.work + work
@@ -97,19 +96,15 @@ pub two_before : (counters_id space_id : ℕ) (ids : List ℕ) → (space_id == 
 unfolding ids_differ
 two_before counters_id space_id ids apart one two differ = rw (apart, one, two) differ
 
--- as a test
-pub lt_test : (k id : ℕ) → k < id → nat_lt k id ≡ true
-lt_test k id lt = grind (arith, lt)
-
 -- what is there is below the new ids
 pub all_below : (rs : List Stored) (id : ℕ) (ids : List ℕ) → AllUnder id rs → list_all (λ k. is_some (record_at rs k)) ids ≡ true → are_under id ids ≡ true
 all_below rs id [] under all = refl
 all_below rs id (k ∷ ks) under all =
-    let h = both (is_some (record_at rs k)) (list_all (λ k. is_some (record_at rs k)) ks) all in and_true (nat_lt k id) (are_under id ks) (by_record (record_at rs k) refl h.0) (all_below rs id ks under h.1)
+    let h = and_parts (is_some (record_at rs k)) (list_all (λ k. is_some (record_at rs k)) ks) all in and_from (nat_lt k id) (are_under id ks) (by_record (record_at rs k) refl h.0) (all_below rs id ks under h.1)
   where
     by_record : (o : Option Record) → record_at rs k ≡ o → is_some o ≡ true → nat_lt k id ≡ true
-    by_record None none some = absurd (bool_apart (sym some))
-    by_record (Some r) found some = lt_test k id (under_found id rs k r under found)
+    by_record None none some = absurd (true≢false (sym some))
+    by_record (Some r) found some = lt-ltb k id (under_found id rs k r under found)
 
 -- the ids of the counters, of the workspace and those that go differ, and all are below the new ones
 pub record Apart (counters_id space_id id : ℕ) (ids : List ℕ) : Type 0 where
@@ -120,7 +115,7 @@ pub apart_so : (rs : List Stored) (version counters_id space_id id : ℕ) (a : S
     → Redrawn rs version a es ids drawn traced → Apart counters_id space_id id ids
 apart_so rs version counters_id space_id id a c es ids drawn traced at r = record {
   differ = two_before counters_id space_id ids (ne_eqb space_id counters_id (λ same. apart.apart (sym same))) (r.gone counters_id (records.Counters c) at.counters) (r.gone space_id (records.Space a) at.space) r.once;
-  under = and_true (nat_lt counters_id id) _ (lt_test counters_id id apart.counters) (and_true (nat_lt space_id id) _ (lt_test space_id id apart.space) (all_below rs id ids at.under r.there));
+  under = and_from (nat_lt counters_id id) _ (lt-ltb counters_id id apart.counters) (and_from (nat_lt space_id id) _ (lt-ltb space_id id apart.space) (all_below rs id ids at.under r.there));
 }
   where
     apart : PlacesApart counters_id space_id id
@@ -187,13 +182,13 @@ drafts_written rs m work table entries a c counters_id space_id id ids drawn tra
   fields = λ s st.
       agree_written rs counters_id space_id id c d a table es ids drawn traced writing s (drafted_by work m (edits.Append a.number entries ∷ []) s) rules st refl refl
       (counts_on s m work a.number c d entries (counts_in (parts_of rs) s c st.counters v.one) refl refl refl refl);
-  rows = rows_stay rs batch (rows_apart rs (latest (parts_of rs) a.number) counters_id space_id id id (length es) a c d es ids drawn traced (new_records (rows_in es) drawn (map (trace_of a.number) traced) (hists_kept (parts_of rs).tables a.number a.log_length es)) at r (no_less id));
+  rows = rows_stay rs batch (rows_apart rs (latest (parts_of rs) a.number) counters_id space_id id id (length es) a c d es ids drawn traced (new_records (rows_in es) drawn (map (trace_of a.number) traced) (hists_kept (parts_of rs).tables a.number a.log_length es)) at r (le_refl id));
   kept = kept_write rs (parts_of rs).tables (latest (parts_of rs) a.number) counters_id space_id id d a es ids drawn traced v.can.kept r;
   counted = λ some. counted_put rs work counters_id c d batch at.sorted v.one once (first_change counters_id _ _) keeps refl;
   nothing = some_edit (edits.Append a.number entries) [] batch;
-  few = λ forks. absurd (bool_apart (sym forks));
+  few = λ forks. absurd (true≢false (sym forks));
   spared = λ n more same spare. versions_planned rs counters_id space_id id c d a table es ids drawn traced writing;
-  turned = λ left. absurd (bool_apart (sym left));
+  turned = λ left. absurd (true≢false (sym left));
 }
   where
     es : List Entry
@@ -222,6 +217,3 @@ drafts_written rs m work table entries a c counters_id space_id id ids drawn tra
 
     once : AreChanges batch
     once = changes-write counters_id d space_id a (length es) ids id (rows_in es) drawn (map (trace_of a.number) traced) (hists_kept (parts_of rs).tables a.number a.log_length es) apart.differ apart.under
-
-    no_less : (n : ℕ) → n ≤ n
-    no_less n = omega arith

@@ -1,5 +1,6 @@
 -- What the batch that writes entries into a version more of a workspace makes of the records.
-use Rattle.std.proofs.Common.{◌≡◌, ℕ, ◌+◌, ◌≤◌, true, List, [], ◌∷◌, map, length, refl, sym, subst, arith}
+use Rattle.std.proofs.Common.{◌≡◌, ℕ, ◌+◌, ◌≤◌, true, List, [], ◌∷◌, map, length, refl, sym, subst, arith, le_refl}
+use Rattle.std.proofs.lemmas.Bool.{true≢false}
 use Rattle.std.specs.declared.alloc.Global.{Global}
 use Rattle.std.specs.declared.vec.Vec.{Vec}
 use Rattle.wm_graph.specs.Parts.{Parts, parts_of}
@@ -26,7 +27,6 @@ use Rattle.wm_state.proofs.Drafted.{some_edit}
 use Rattle.wm_state.proofs.Growing.{MayFork}
 use Rattle.wm_state.proofs.RowsStay.{below_apart, new_apart, rows_stay}
 use Rattle.wm_state.proofs.Settled.{Places, PlacesApart, places_apart}
-use Rattle.wm_state.proofs.Tests.{bool_apart}
 use Rattle.wm_state.proofs.WorkedOn.{counted_put, second_change}
 use Rattle.wm_written.proofs.Behind.{new_records}
 use Rattle.wm_written.proofs.DraftedWritten.{Apart, Appends, apart_so, counts_on, entries_in, log_room, on_table, rows_apart, stamps_left}
@@ -57,16 +57,13 @@ may_write_more p m work table a c es rules can_work v = record {
   counters = stamped_by (versioned c m work) (length es) (version_well p m work c rules can_work v.one) (stamps_left p a.number table a c es v);
   stamps = refl;
   versions = refl;
-  work = same_work (c.work + work);
+  work = le_refl (c.work + work);
   room = log_room p a.number table a c es v;
   stamped = v.stamped;
   on = on_table p a.number table a c es v;
   well = v.can.well;
   users = v.can.users;
 }
-  where
-    same_work : (w : ℕ) → w ≤ w
-    same_work w = omega arith
 
 -- the batch makes of the records what the entries make of each state, where the newest version of the workspace is not spare
 pub drafts_written_new : (rs : List Stored) (m work table : ℕ) (entries : Vec NewEntry Global) (a : Space) (c : Counters) (counters_id space_id id : ℕ) (ids : List ℕ) (drawn traced : List PieceRecord) → keep_rules (parts_of rs) ≡ true
@@ -91,9 +88,9 @@ drafts_written_new rs m work table entries a c counters_id space_id id ids drawn
   kept = kept_write rs (parts_of rs).tables c.next_version counters_id space_id (id + 1) d a es ids drawn traced v.can.kept r;
   counted = λ some. counted_put rs work counters_id c d batch at.sorted v.one once (second_change id counters_id _ _ _ (λ same. below_apart counters_id id apart.counters same)) keeps refl;
   nothing = some_edit (edits.Append a.number entries) [] batch;
-  few = λ forks. absurd (bool_apart (sym forks));
+  few = λ forks. absurd (true≢false (sym forks));
   spared = λ n more same spare. absurd (used (subst (λ k. IsSpare (parts_of rs) k) (one_number n more same) spare));
-  turned = λ left. absurd (bool_apart (sym left));
+  turned = λ left. absurd (true≢false (sym left));
 }
   where
     es : List Entry

@@ -1,6 +1,6 @@
 -- Pieces that stand for old ones with new ones over them.
-use Rattle.std.proofs.Common.{◌≡◌, ℕ, ◌==◌, nat_lt, nat_le, Bool, true, false, not, ◌&&◌, List, [], ◌∷◌, ◌++◌, append_assoc, Option, None, refl, sym, ap, subst, ◌∙◌}
-use Rattle.std.proofs.lemmas.Bool.{eqb-true, eq-eqb}
+use Rattle.std.proofs.Common.{◌≡◌, ℕ, ◌==◌, nat_lt, nat_le, Bool, true, false, not, ◌&&◌, List, [], ◌∷◌, ◌++◌, Option, None, refl, sym, ap, ◌∙◌}
+use Rattle.std.proofs.lemmas.Bool.{eqb-true, eq-eqb, and_from, and_parts, not-true, true≢false}
 use Rattle.std.specs.Bool.{then_some}
 use Rattle.std.specs.List.{flat_map, list_all, list_any}
 use Rattle.std.specs.Option.{option_or}
@@ -13,11 +13,11 @@ use Rattle.wm_period.specs.Pieces.{Held}
 use Rattle.wm_spec.specs.Lists.{Cell}
 use Rattle.wm_spec.specs.declared.record.piece.PieceRecord.{PieceRecord}
 use Rattle.wm_state.specs.Batches.{is_in, is_out}
-use Rattle.wm_state.specs.Drawing.{left_by, laid, stored_last, has_moments, PassesParts, AreDrawn}
+use Rattle.wm_state.specs.Drawing.{left_by, stored_last, has_moments, PassesParts, AreDrawn}
 use Rattle.wm_state.specs.Standing.{covers_at, held_by, stored_at}
 use Rattle.wm_state.proofs.Appending.{all_append, differ_append}
 use Rattle.wm_state.proofs.Laying.{key_same, key_itself, stored-append}
-use Rattle.wm_state.proofs.Tests.{both, bool_apart, and_true, not_true, none_if, all_if}
+use Rattle.wm_state.proofs.Tests.{none_if, all_if}
 use Rattle.wm_written.proofs.DrawingHeld.{last_append, over_held, place_of}
 use Rattle.wm_written.proofs.DrawingApart.{all_over, over_differ}
 use Rattle.wm_state.proofs.DrawingEnds.{more-front, more-behind, more-both, more-passed, has_both, ends-more, ends-of, ends-over}
@@ -42,7 +42,7 @@ drawn-over news old drawn new so lasts = record {
   differ = over_differ new lasts drawn so.differ;
   pass = λ test parts olds passed.
       let h = apart_all test news passed in
-      and_true (test new) (list_all test (flat_map (left_by new) drawn)) h.1 (all_over test new parts drawn (so.pass test parts olds h.0));
+      and_from (test new) (list_all test (flat_map (left_by new) drawn)) h.1 (all_over test new parts drawn (so.pass test parts olds h.0));
   ends =
       let all : List PieceRecord = old ++ (news ++ new ∷ []) in
       ends-over all new drawn (λ P e. more-behind old (news ++ new ∷ []) P (more-behind news (new ∷ []) P e))
@@ -50,25 +50,9 @@ drawn-over news old drawn new so lasts = record {
 }
   where
     apart_all : (test : PieceRecord → Bool) (xs : List PieceRecord) → list_all test (xs ++ new ∷ []) ≡ true → (list_all test xs ≡ true) × (test new ≡ true)
-    apart_all test [] passed = (refl, (both (test new) true passed).0)
+    apart_all test [] passed = (refl, (and_parts (test new) true passed).0)
     apart_all test (x ∷ xs) passed =
-        let h = both (test x) (list_all test (xs ++ new ∷ [])) passed in let rest = apart_all test xs h.1 in (and_true (test x) (list_all test xs) h.0 rest.0, rest.1)
-
--- new pieces more, one after another
-drawn-on : (front news old drawn : List PieceRecord) → AreDrawn front old drawn → list_all has_moments news ≡ true → AreDrawn (front ++ news) old (laid news drawn)
-drawn-on front [] old drawn so lasts = subst (λ (xs : List PieceRecord). AreDrawn xs old drawn) (sym (no_more front)) so
-  where
-    no_more : (xs : List PieceRecord) → xs ++ [] ≡ xs
-    no_more [] = refl
-    no_more (x ∷ xs) = ap (λ ys. x ∷ ys) (no_more xs)
-drawn-on front (new ∷ news) old drawn so lasts =
-    let h = both (has_moments new) (list_all has_moments news) lasts in
-    subst (λ (xs : List PieceRecord). AreDrawn xs old (laid news (new ∷ flat_map (left_by new) drawn))) (append_assoc front (new ∷ []) news)
-    (drawn-on (front ++ new ∷ []) news old (new ∷ flat_map (left_by new) drawn) (drawn-over front old drawn new so h.0) h.1)
-
--- what is laid over old pieces stands for both
-pub drawn-laid : (news old : List PieceRecord) → differ collide old ≡ true → list_all has_moments news ≡ true → AreDrawn news old (laid news old)
-drawn-laid news old apart lasts = drawn-on [] news old old (drawn-old old apart) lasts
+        let h = and_parts (test x) (list_all test (xs ++ new ∷ [])) passed in let rest = apart_all test xs h.1 in (and_from (test x) (list_all test xs) h.0 rest.0, rest.1)
 
 -- ---- places side by side
 
@@ -80,7 +64,7 @@ abbrev is_cell : ℕ → ℕ → List Value → ℕ → Cell → Bool
 is_cell version table key w c = (version == w) && ((table == c.table) && is_eq (key_order key c.key))
 
 uncovered : (a b t : Bool) → (a && b) ≡ false → (a && (b && t)) ≡ false
-uncovered true true t e = absurd (bool_apart e)
+uncovered true true t e = absurd (true≢false e)
 uncovered true false t e = refl
 uncovered false b t e = refl
 
@@ -95,29 +79,29 @@ out_of version table key w c x outside here = by_place (is_in w c.table c.key x)
   where
     turned : is_cell version table key w c ≡ true → is_in version table key (record x { version = w; cells = record x.cells { table = c.table; key = c.key } }) ≡ true
     turned e =
-        let h = both (version == w) ((table == c.table) && is_eq (key_order key c.key)) e in
-        let g = both (table == c.table) (is_eq (key_order key c.key)) h.1 in
-        and_true (w == version) ((c.table == table) && is_eq (key_order c.key key)) (eq-eqb w version (sym (eqb-true version w h.0)))
-        (and_true (c.table == table) (is_eq (key_order c.key key)) (eq-eqb c.table table (sym (eqb-true table c.table g.0))) (ap (λ (k : List Value). is_eq (key_order c.key k)) (key_same key c.key g.1) ∙ key_itself c.key))
+        let h = and_parts (version == w) ((table == c.table) && is_eq (key_order key c.key)) e in
+        let g = and_parts (table == c.table) (is_eq (key_order key c.key)) h.1 in
+        and_from (w == version) ((c.table == table) && is_eq (key_order c.key key)) (eq-eqb w version (sym (eqb-true version w h.0)))
+        (and_from (c.table == table) (is_eq (key_order c.key key)) (eq-eqb c.table table (sym (eqb-true table c.table g.0))) (ap (λ (k : List Value). is_eq (key_order c.key k)) (key_same key c.key g.1) ∙ key_itself c.key))
 
     by_place : (b : Bool) → is_in w c.table c.key x ≡ b → covers_at x w c ≡ false
-    by_place true e = absurd (bool_apart (sym (place_of w c.table c.key x e version table key ∙ turned here) ∙ not_true (is_in version table key x) outside))
+    by_place true e = absurd (true≢false (sym (place_of w c.table c.key x e version table key ∙ turned here) ∙ not-true (is_in version table key x) outside))
     by_place false e = uncovered (x.version == w) ((x.cells.table == c.table) && is_eq (key_order x.cells.key c.key)) (nat_le x.cells.from c.time && nat_lt c.time x.cells.till) e
 
 none_stored : (P : PieceRecord → Bool) (w : ℕ) (c : Cell) → ((x : PieceRecord) → P x ≡ true → covers_at x w c ≡ false) → (xs : List PieceRecord) → list_all P xs ≡ true → stored_at xs w c ≡ nothing
 none_stored P w c none [] all = refl
-none_stored P w c none (x ∷ xs) all = let h = both (P x) (list_all P xs) all in rw (none x h.0) (none_stored P w c none xs h.1)
+none_stored P w c none (x ∷ xs) all = let h = and_parts (P x) (list_all P xs) all in rw (none x h.0) (none_stored P w c none xs h.1)
 
 none_last : (P : PieceRecord → Bool) (w : ℕ) (c : Cell) → ((x : PieceRecord) → P x ≡ true → covers_at x w c ≡ false) → (xs : List PieceRecord) → list_all P xs ≡ true → stored_last xs w c ≡ nothing
 none_last P w c none [] all = refl
-none_last P w c none (x ∷ xs) all = let h = both (P x) (list_all P xs) all in rw (none x h.0, none_last P w c none xs h.1) refl
+none_last P w c none (x ∷ xs) all = let h = and_parts (P x) (list_all P xs) all in rw (none x h.0, none_last P w c none xs h.1) refl
 
 -- pieces of a place and others do not collide
 places_apart : (version table : ℕ) (key : List Value) (x y : PieceRecord) → is_out version table key x ≡ true → is_in version table key y ≡ true → collide x y ≡ false
 places_apart version table key x y outside inside = by_place (is_in y.version y.cells.table y.cells.key x) refl
   where
     by_place : (b : Bool) → is_in y.version y.cells.table y.cells.key x ≡ b → (b && (nat_lt x.cells.from y.cells.till && nat_lt y.cells.from x.cells.till)) ≡ false
-    by_place true e = absurd (bool_apart (sym (place_of y.version y.cells.table y.cells.key x e version table key ∙ inside) ∙ not_true (is_in version table key x) outside))
+    by_place true e = absurd (true≢false (sym (place_of y.version y.cells.table y.cells.key x e version table key ∙ inside) ∙ not-true (is_in version table key x) outside))
     by_place false e = refl
 
 -- a part is of its piece's place
@@ -129,7 +113,7 @@ out-parts version table key = λ x from till here after some before. here
 
 pub all_apart : (test : PieceRecord → Bool) (xs ys : List PieceRecord) → list_all test (xs ++ ys) ≡ true → (list_all test xs ≡ true) × (list_all test ys ≡ true)
 all_apart test [] ys all = (refl, all)
-all_apart test (x ∷ xs) ys all = let h = both (test x) (list_all test (xs ++ ys)) all in let rest = all_apart test xs ys h.1 in (and_true (test x) (list_all test xs) h.0 rest.0, rest.1)
+all_apart test (x ∷ xs) ys all = let h = and_parts (test x) (list_all test (xs ++ ys)) all in let rest = all_apart test xs ys h.1 in (and_from (test x) (list_all test xs) h.0 rest.0, rest.1)
 
 -- what is drawn of one key of a version and table beside what is drawn of others
 pub drawn-more : (version table : ℕ) (key : List Value) (ns xs ds ms ys es : List PieceRecord) → AreDrawn ns xs ds → AreDrawn ms ys es → list_all (is_out version table key) ns ≡ true → list_all (is_out version table key) xs ≡ true

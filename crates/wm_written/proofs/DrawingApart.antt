@@ -1,5 +1,7 @@
 -- No two pieces collide with a new one over them.
-use Rattle.std.proofs.Common.{◌≡◌, ℕ, ◌<◌, ◌≤◌, ◌==◌, nat_lt, min, max, Bool, true, false, not, ◌&&◌, cond, List, [], ◌∷◌, ◌++◌, refl, ap, arith}
+use Rattle.std.proofs.Common.{◌≡◌, ℕ, ◌<◌, ◌≤◌, ◌==◌, nat_lt, min, max, Bool, true, false, not, ◌&&◌, cond, List, [], ◌∷◌, ◌++◌, refl, ap, arith, le_refl}
+use Rattle.std.proofs.lemmas.Bool.{and_from, and_parts, ltb-true, not-true, or_parts}
+use Rattle.std.proofs.Math.Nat.{le-max_left}
 use Rattle.std.specs.List.{flat_map, list_all, list_any}
 use Rattle.std.specs.Ordering.{is_eq}
 use Rattle.wm_base.specs.Key.{key_order}
@@ -7,7 +9,6 @@ use Rattle.wm_graph.specs.Rules.{differ, collide}
 use Rattle.wm_spec.specs.declared.record.piece.PieceRecord.{PieceRecord}
 use Rattle.wm_state.specs.Drawing.{between, part, around, left_by, has_moments, PassesParts}
 use Rattle.wm_state.proofs.Appending.{all_append, any_append, differ_append}
-use Rattle.wm_state.proofs.Tests.{both, and_true, either_false, not_true}
 
 -- two pieces are of one version, table and key
 abbrev at_one_place : PieceRecord → PieceRecord → Bool
@@ -32,7 +33,7 @@ apart_part y x from till after before apart = fewer_behind (at_one_place y x) x.
 pub part_apart_all : (x : PieceRecord) (from till : ℕ) → x.cells.from ≤ from → till ≤ x.cells.till → (ys : List PieceRecord) → list_any (collide x) ys ≡ false → list_any (collide (between from till x)) ys ≡ false
 part_apart_all x from till after before [] apart = refl
 part_apart_all x from till after before (y ∷ ys) apart =
-    let h = either_false (collide x y) (list_any (collide x) ys) apart in
+    let h = or_parts (collide x y) (list_any (collide x) ys) apart in
     rw (part_apart x y from till after before h.0, part_apart_all x from till after before ys h.1) refl
 
 -- ---- tests over what is left of a piece
@@ -40,9 +41,6 @@ part_apart_all x from till after before (y ∷ ys) apart =
 -- the ends of the two parts are between those of the piece
 first_end : (till over : ℕ) → min till over ≤ till
 first_end till over = omega arith
-
-last_start : (from over : ℕ) → from ≤ max from over
-last_start from over = omega arith
 
 none_part : (P : PieceRecord → Bool) (from till : ℕ) (x : PieceRecord) → P (between from till x) ≡ false → list_any P (part from till x) ≡ false
 none_part P from till x apart = by_test (nat_lt from till)
@@ -54,31 +52,25 @@ none_part P from till x apart = by_test (nat_lt from till)
 all_part : (P : PieceRecord → Bool) (from till : ℕ) (x : PieceRecord) → (from < till → P (between from till x) ≡ true) → list_all P (part from till x) ≡ true
 all_part P from till x passes = by_test (nat_lt from till) refl
   where
-    less : (a b : ℕ) → nat_lt a b ≡ true → a < b
-    less a b e = grind (arith, e)
-
     by_test : (b : Bool) → nat_lt from till ≡ b → list_all P (cond b (between from till x ∷ []) []) ≡ true
-    by_test true e = rw (passes (less from till e)) refl
+    by_test true e = rw (passes (ltb-true from till e)) refl
     by_test false e = refl
 
 -- what passes with all its parts passes where a new piece is over it
 pub all_left : (P : PieceRecord → Bool) (new x : PieceRecord) → P x ≡ true → ((from till : ℕ) → x.cells.from ≤ from → from < till → till ≤ x.cells.till → P (between from till x) ≡ true) → list_all P (left_by new x) ≡ true
 all_left P new x whole parts = by_place (collide new x)
   where
-    itself : (n : ℕ) → n ≤ n
-    itself n = omega arith
-
     by_place : (b : Bool) → list_all P (cond b (around new x) (x ∷ [])) ≡ true
     by_place true =
         all_append P (part x.cells.from (min x.cells.till new.cells.from) x) (part (max x.cells.from new.cells.till) x.cells.till x)
-        (all_part P x.cells.from (min x.cells.till new.cells.from) x (λ some. parts x.cells.from (min x.cells.till new.cells.from) (itself x.cells.from) some (first_end x.cells.till new.cells.from)))
-        (all_part P (max x.cells.from new.cells.till) x.cells.till x (λ some. parts (max x.cells.from new.cells.till) x.cells.till (last_start x.cells.from new.cells.till) some (itself x.cells.till)))
-    by_place false = and_true (P x) true whole refl
+        (all_part P x.cells.from (min x.cells.till new.cells.from) x (λ some. parts x.cells.from (min x.cells.till new.cells.from) (le_refl x.cells.from) some (first_end x.cells.till new.cells.from)))
+        (all_part P (max x.cells.from new.cells.till) x.cells.till x (λ some. parts (max x.cells.from new.cells.till) x.cells.till (le-max_left x.cells.from new.cells.till) some (le_refl x.cells.till)))
+    by_place false = and_from (P x) true whole refl
 
 pub all_over : (P : PieceRecord → Bool) (new : PieceRecord) → PassesParts P → (xs : List PieceRecord) → list_all P xs ≡ true → list_all P (flat_map (left_by new) xs) ≡ true
 all_over P new parts [] passed = refl
 all_over P new parts (x ∷ xs) passed =
-    let h = both (P x) (list_all P xs) passed in
+    let h = and_parts (P x) (list_all P xs) passed in
     all_append P (left_by new x) (flat_map (left_by new) xs) (all_left P new x h.0 (λ from till after some before. parts x from till h.0 after some before)) (all_over P new parts xs h.1)
 
 -- ---- what is left collides with nothing that the pieces did not
@@ -86,25 +78,19 @@ all_over P new parts (x ∷ xs) passed =
 apart_left : (y new x : PieceRecord) → collide y x ≡ false → list_any (collide y) (left_by new x) ≡ false
 apart_left y new x apart = by_place (collide new x)
   where
-    itself : (n : ℕ) → n ≤ n
-    itself n = omega arith
-
     by_place : (b : Bool) → list_any (collide y) (cond b (around new x) (x ∷ [])) ≡ false
     by_place true =
         any_append (collide y) (part x.cells.from (min x.cells.till new.cells.from) x) (part (max x.cells.from new.cells.till) x.cells.till x)
-        (none_part (collide y) x.cells.from (min x.cells.till new.cells.from) x (apart_part y x x.cells.from (min x.cells.till new.cells.from) (itself x.cells.from) (first_end x.cells.till new.cells.from) apart))
-        (none_part (collide y) (max x.cells.from new.cells.till) x.cells.till x (apart_part y x (max x.cells.from new.cells.till) x.cells.till (last_start x.cells.from new.cells.till) (itself x.cells.till) apart))
+        (none_part (collide y) x.cells.from (min x.cells.till new.cells.from) x (apart_part y x x.cells.from (min x.cells.till new.cells.from) (le_refl x.cells.from) (first_end x.cells.till new.cells.from) apart))
+        (none_part (collide y) (max x.cells.from new.cells.till) x.cells.till x (apart_part y x (max x.cells.from new.cells.till) x.cells.till (le-max_left x.cells.from new.cells.till) (le_refl x.cells.till) apart))
     by_place false = rw apart refl
 
 apart_over : (y new : PieceRecord) (xs : List PieceRecord) → list_any (collide y) xs ≡ false → list_any (collide y) (flat_map (left_by new) xs) ≡ false
 apart_over y new [] apart = refl
 apart_over y new (x ∷ xs) apart =
-    let h = either_false (collide y x) (list_any (collide y) xs) apart in any_append (collide y) (left_by new x) (flat_map (left_by new) xs) (apart_left y new x h.0) (apart_over y new xs h.1)
+    let h = or_parts (collide y x) (list_any (collide y) xs) apart in any_append (collide y) (left_by new x) (flat_map (left_by new) xs) (apart_left y new x h.0) (apart_over y new xs h.1)
 
 -- ---- the two parts of a piece, and the new piece between them
-
-less_than : (a b : ℕ) → nat_lt a b ≡ true → a < b
-less_than a b e = grind (arith, e)
 
 -- the first part ends where the new piece begins, or before, and the last one begins where it ends, or behind
 parts_apart : (s : Bool) (from till over_from over_till : ℕ) → over_from < over_till → (s && (nat_lt from till && nat_lt (max from over_till) (min till over_from))) ≡ false
@@ -124,7 +110,7 @@ differ_left : (new x : PieceRecord) → has_moments new ≡ true → differ coll
 differ_left new x lasts = by_place (collide new x)
   where
     by_parts : (a b : Bool) → differ collide (cond a (between x.cells.from (min x.cells.till new.cells.from) x ∷ []) [] ++ cond b (between (max x.cells.from new.cells.till) x.cells.till x ∷ []) []) ≡ true
-    by_parts true true = rw (parts_apart (at_one_place x x) x.cells.from x.cells.till new.cells.from new.cells.till (less_than new.cells.from new.cells.till lasts)) refl
+    by_parts true true = rw (parts_apart (at_one_place x x) x.cells.from x.cells.till new.cells.from new.cells.till (ltb-true new.cells.from new.cells.till lasts)) refl
     by_parts true false = refl
     by_parts false true = refl
     by_parts false false = refl
@@ -147,12 +133,12 @@ new_apart new (x ∷ xs) = any_append (collide new) (left_by new x) (flat_map (l
 differ_over : (new : PieceRecord) → has_moments new ≡ true → (xs : List PieceRecord) → differ collide xs ≡ true → differ collide (flat_map (left_by new) xs) ≡ true
 differ_over new lasts [] apart = refl
 differ_over new lasts (x ∷ xs) apart =
-    let h = both (not (list_any (collide x) xs)) (differ collide xs) apart in
-    let free = not_true (list_any (collide x) xs) h.0 in
+    let h = and_parts (not (list_any (collide x) xs)) (differ collide xs) apart in
+    let free = not-true (list_any (collide x) xs) h.0 in
     differ_append collide (left_by new x) (flat_map (left_by new) xs) (differ_left new x lasts) (differ_over new lasts xs h.1)
     (all_left (λ p. not (list_any (collide p) (flat_map (left_by new) xs))) new x (ap not (apart_over x new xs free))
     (λ from till after some before. ap not (apart_over (between from till x) new xs (part_apart_all x from till after before xs free))))
 
 -- no two collide with a new piece over them, where none did before
 pub over_differ : (new : PieceRecord) → has_moments new ≡ true → (xs : List PieceRecord) → differ collide xs ≡ true → differ collide (new ∷ flat_map (left_by new) xs) ≡ true
-over_differ new lasts xs apart = and_true (not (list_any (collide new) (flat_map (left_by new) xs))) (differ collide (flat_map (left_by new) xs)) (ap not (new_apart new xs)) (differ_over new lasts xs apart)
+over_differ new lasts xs apart = and_from (not (list_any (collide new) (flat_map (left_by new) xs))) (differ collide (flat_map (left_by new) xs)) (ap not (new_apart new xs)) (differ_over new lasts xs apart)

@@ -1,6 +1,6 @@
 -- What pieces hold with a new one over them.
 use Rattle.std.proofs.Common.{◌≡◌, ℕ, ◌==◌, nat_lt, nat_le, min, max, Bool, true, false, ◌&&◌, ◌||◌, cond, List, [], ◌∷◌, ◌++◌, Option, None, refl, sym, ap, ◌∙◌, arith}
-use Rattle.std.proofs.lemmas.Bool.{eq-eqb, eqb-true}
+use Rattle.std.proofs.lemmas.Bool.{eq-eqb, eqb-true, and_from, and_parts}
 use Rattle.std.specs.Bool.{then_some}
 use Rattle.std.specs.List.{flat_map}
 use Rattle.std.specs.Option.{option_or}
@@ -16,7 +16,6 @@ use Rattle.wm_state.specs.Batches.{is_in}
 use Rattle.wm_state.specs.Drawing.{between, part, around, left_by, stored_last}
 use Rattle.wm_state.specs.Standing.{covers_at, held_by, stored_at}
 use Rattle.wm_state.proofs.Laying.{key_itself, key_same, stored-append}
-use Rattle.wm_state.proofs.Tests.{and_true, both}
 
 abbrev nothing : Option Held
 nothing = None
@@ -34,8 +33,8 @@ last_append (x ∷ xs) ys w c =
 -- a piece of a version, a table and a key is of another only where these are the same
 pub place_of : (version table : ℕ) (key : List Value) (x : PieceRecord) → is_in version table key x ≡ true → (w t : ℕ) (k : List Value) → is_in w t k x ≡ ((version == w) && ((table == t) && is_eq (key_order key k)))
 place_of version table key x inside w t k =
-    let h = both (x.version == version) ((x.cells.table == table) && is_eq (key_order x.cells.key key)) inside in
-    let g = both (x.cells.table == table) (is_eq (key_order x.cells.key key)) h.1 in
+    let h = and_parts (x.version == version) ((x.cells.table == table) && is_eq (key_order x.cells.key key)) inside in
+    let g = and_parts (x.cells.table == table) (is_eq (key_order x.cells.key key)) h.1 in
     ap (λ (v : ℕ). (v == w) && ((x.cells.table == t) && is_eq (key_order x.cells.key k))) (eqb-true x.version version h.0)
     ∙ ap (λ (v : ℕ). (version == w) && ((v == t) && is_eq (key_order x.cells.key k))) (eqb-true x.cells.table table g.0)
     ∙ ap (λ (l : List Value). (version == w) && ((table == t) && is_eq (key_order l k))) (key_same x.cells.key key g.1)
@@ -43,16 +42,16 @@ place_of version table key x inside w t k =
 -- of two pieces each is of the place of the other
 pub turned : (x y : PieceRecord) → is_in x.version x.cells.table x.cells.key y ≡ true → is_in y.version y.cells.table y.cells.key x ≡ true
 turned x y e =
-    let h = both (y.version == x.version) ((y.cells.table == x.cells.table) && is_eq (key_order y.cells.key x.cells.key)) e in
-    let g = both (y.cells.table == x.cells.table) (is_eq (key_order y.cells.key x.cells.key)) h.1 in
-    and_true (x.version == y.version) ((x.cells.table == y.cells.table) && is_eq (key_order x.cells.key y.cells.key)) (eq-eqb x.version y.version (sym (eqb-true y.version x.version h.0)))
-    (and_true (x.cells.table == y.cells.table) (is_eq (key_order x.cells.key y.cells.key)) (eq-eqb x.cells.table y.cells.table (sym (eqb-true y.cells.table x.cells.table g.0)))
+    let h = and_parts (y.version == x.version) ((y.cells.table == x.cells.table) && is_eq (key_order y.cells.key x.cells.key)) e in
+    let g = and_parts (y.cells.table == x.cells.table) (is_eq (key_order y.cells.key x.cells.key)) h.1 in
+    and_from (x.version == y.version) ((x.cells.table == y.cells.table) && is_eq (key_order x.cells.key y.cells.key)) (eq-eqb x.version y.version (sym (eqb-true y.version x.version h.0)))
+    (and_from (x.cells.table == y.cells.table) (is_eq (key_order x.cells.key y.cells.key)) (eq-eqb x.cells.table y.cells.table (sym (eqb-true y.cells.table x.cells.table g.0)))
     (ap (λ (k : List Value). is_eq (key_order x.cells.key k)) (key_same y.cells.key x.cells.key g.1) ∙ key_itself x.cells.key))
 
 -- as those that collide are
 pub met_there : (x y : PieceRecord) → collide x y ≡ true → is_in x.version x.cells.table x.cells.key y ≡ true
 met_there x y hit =
-    turned y x (both ((x.version == y.version) && ((x.cells.table == y.cells.table) && is_eq (key_order x.cells.key y.cells.key))) (nat_lt x.cells.from y.cells.till && nat_lt y.cells.from x.cells.till) hit).0
+    turned y x (and_parts ((x.version == y.version) && ((x.cells.table == y.cells.table) && is_eq (key_order x.cells.key y.cells.key))) (nat_lt x.cells.from y.cells.till && nat_lt y.cells.from x.cells.till) hit).0
 
 -- ---- parts
 
@@ -106,11 +105,8 @@ around_held new x w c inside away =
 
     free : (x.version == w) ≡ true → ((x.cells.table == c.table) && is_eq (key_order x.cells.key c.key)) ≡ true → (nat_le new.cells.from c.time && nat_lt c.time new.cells.till) ≡ false
     free v k =
-        let h = both (new.version == w) ((new.cells.table == c.table) && is_eq (key_order new.cells.key c.key)) (sym same ∙ both_true (x.version == w) ((x.cells.table == c.table) && is_eq (key_order x.cells.key c.key)) v k) in
+        let h = and_parts (new.version == w) ((new.cells.table == c.table) && is_eq (key_order new.cells.key c.key)) (sym same ∙ and_from (x.version == w) ((x.cells.table == c.table) && is_eq (key_order x.cells.key c.key)) v k) in
         no_time (new.version == w) ((new.cells.table == c.table) && is_eq (key_order new.cells.key c.key)) (nat_le new.cells.from c.time && nat_lt c.time new.cells.till) away h.0 h.1
-      where
-        both_true : (a b : Bool) → a ≡ true → b ≡ true → (a && b) ≡ true
-        both_true a b e f = rw (e, f) refl
 
 -- ---- all of them
 

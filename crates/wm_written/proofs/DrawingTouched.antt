@@ -1,5 +1,6 @@
 -- What is drawn over the pieces that new ones touch.
 use Rattle.std.proofs.Common.{◌≡◌, ℕ, Bool, true, false, not, ◌&&◌, ◌||◌, List, [], ◌∷◌, ◌++◌, refl, sym, ap, ◌∙◌}
+use Rattle.std.proofs.lemmas.Bool.{and_parts, not-true, true≢false}
 use Rattle.std.specs.List.{filter, flat_map, list_all, list_any}
 use Rattle.std.specs.Option.{option_or}
 use Rattle.wm_base.specs.declared.value.Value.{Value}
@@ -14,7 +15,7 @@ use Rattle.wm_written.proofs.Drawing.{all_apart, drawn-more, drawn-over, drawn-s
 use Rattle.wm_written.proofs.DrawingApart.{part_apart_all}
 use Rattle.wm_state.proofs.DrawingEnds.{ends-more, ends-of, has_both, more-behind, more-both, more-front}
 use Rattle.wm_state.proofs.Laying.{stored-append}
-use Rattle.wm_state.proofs.Tests.{both, bool_apart, differ_filter, not_true}
+use Rattle.wm_state.proofs.Tests.{differ_filter}
 use Rattle.wm_written.proofs.Touched.{AreApart, are-turned, clear-append, clear-apart, either-held, either-pass, filters-apart, met-place, touched-all}
 
 -- ---- pieces beside those that are drawn
@@ -22,7 +23,7 @@ use Rattle.wm_written.proofs.Touched.{AreApart, are-turned, clear-append, clear-
 -- what collides neither with the old ones nor with the new ones collides with nothing that is drawn
 drawn-apart : (news old drawn more : List PieceRecord) → AreDrawn news old drawn → AreApart news more → AreApart old more → AreApart drawn more
 drawn-apart news old drawn more so news_apart old_apart =
-    so.pass (λ x. not (list_any (collide x) more)) (λ x from till apart after some before. ap not (part_apart_all x from till after before more (not_true (list_any (collide x) more) apart))) old_apart news_apart
+    so.pass (λ x. not (list_any (collide x) more)) (λ x from till apart after some before. ap not (part_apart_all x from till after before more (not-true (list_any (collide x) more) apart))) old_apart news_apart
 
 -- so it may stand beside it
 drawn-beside : (news old drawn more : List PieceRecord) → AreDrawn news old drawn → AreApart news more → AreApart old more → differ collide more ≡ true → AreDrawn news (old ++ more) (drawn ++ more)
@@ -47,7 +48,7 @@ pub kept-apart : (news old drawn : List PieceRecord) → differ collide old ≡ 
 kept-apart news old drawn apart so =
     are-turned drawn (filter (is_clear news) old)
     (drawn-apart news (touched news old) drawn (filter (is_clear news) old) so (clear-apart news (filter (is_clear news) old) (all_kept (is_clear news) (is_clear news) (λ y is. is) old))
-    (filters-apart (λ y. not (is_clear news y)) (is_clear news) (λ y reached is. bool_apart (sym is ∙ not_true (is_clear news y) reached)) old apart))
+    (filters-apart (λ y. not (is_clear news y)) (is_clear news) (λ y reached is. true≢false (sym is ∙ not-true (is_clear news y) reached)) old apart))
 
 -- ---- one new piece more
 
@@ -73,8 +74,8 @@ drawn-touched news new xs drawn apart lasts so =
     (either-pass (λ y. not (is_clear news y)) (is_met_by news new) (λ y. not (is_clear (news ++ new ∷ []) y)) (touched-more news new) xs)
     (drawn-over news (touched news xs ++ met) (drawn ++ met) new
     (drawn-beside news (touched news xs) drawn met so
-    (clear-apart news met (all_kept (is_clear news) (is_met_by news new) (λ y is. (both (is_clear news y) (collide new y) is).0) xs))
-    (filters-apart (λ y. not (is_clear news y)) (is_met_by news new) (λ y reached is. bool_apart (sym (both (is_clear news y) (collide new y) is).0 ∙ not_true (is_clear news y) reached)) xs apart)
+    (clear-apart news met (all_kept (is_clear news) (is_met_by news new) (λ y is. (and_parts (is_clear news y) (collide new y) is).0) xs))
+    (filters-apart (λ y. not (is_clear news y)) (is_met_by news new) (λ y reached is. true≢false (sym (and_parts (is_clear news y) (collide new y) is).0 ∙ not-true (is_clear news y) reached)) xs apart)
     (differ_filter collide (is_met_by news new) xs apart)) lasts)
   where
     met : List PieceRecord

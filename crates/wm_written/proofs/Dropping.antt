@@ -1,6 +1,7 @@
 -- Records that a batch drops, by a test of those that stay.
 use Rattle.std.proofs.Common.{◌≡◌, ◌≢◌, ℕ, ◌==◌, ◌||◌, Bool, true, false, not, cond, if◌then◌else◌, List, [], ◌∷◌, map, Option, Some, None, refl, sym, ap, ◌∙◌, ◌⊎◌, inl, inr}
 use Rattle.std.proofs.lemmas.Bool.{cases_eq, eq-eqb, ne_eqb}
+use Rattle.std.proofs.lemmas.Option.{same_Some}
 use Rattle.std.specs.List.{filter}
 use Rattle.wm_spec.specs.Records.{record_at}
 use Rattle.wm_spec.specs.declared.record.Record.{Record}
@@ -84,11 +85,8 @@ dropped keep ids ss sorted are =
 pub dropped-set : (keep : Record → Bool) (ids : List ℕ) (ss : List Stored) (id : ℕ) (q : Record) → Ascend ss → keep q ≡ true → is_dropped ids id ≡ false → AreDropped keep ids ss → AreDropped keep ids (set_at id (Some q) ss)
 dropped-set keep ids ss id q sorted stays free are other x there = by_id (cases_eq other id) (sym (record_at-set id (Some q) ss sorted other) ∙ there)
   where
-    some_record : (a b : Record) → Some a ≡ Some b → a ≡ b
-    some_record a b h = cc
-
     by_id : (other ≡ id) ⊎ (other ≢ id) → (if other == id then Some q else record_at ss other) ≡ Some x → is_dropped ids other ≡ not (keep x)
     by_id (inl same) e =
-        let is : q ≡ x = some_record q x (sym (ap (λ b. if b then Some q else record_at ss other) (eq-eqb _ _ same)) ∙ e) in
+        let is : q ≡ x = same_Some q x (sym (ap (λ b. if b then Some q else record_at ss other) (eq-eqb _ _ same)) ∙ e) in
         ap (is_dropped ids) same ∙ free ∙ ap not (sym stays ∙ ap keep is)
     by_id (inr apart) e = are other x (sym (ap (λ b. if b then Some q else record_at ss other) (ne_eqb _ _ apart)) ∙ e)

@@ -1,9 +1,9 @@
 -- The rules hold of the records with more rows, more pieces and touches in the place of some, and more entries of a log.
-use Rattle.std.proofs.Common.{◌≡◌, ℕ, ◌+◌, ◌^◌, ◌≤◌, ◌==◌, nat_lt, nat_le, Bool, true, false, not, ◌&&◌, List, [], ◌∷◌, ◌++◌, Option, Some, is_some, length, refl, sym, ap, ◌∙◌, arith}
-use Rattle.std.proofs.lemmas.Bool.{eqb-true}
+use Rattle.std.proofs.Common.{◌≡◌, ℕ, ◌+◌, ◌^◌, ◌≤◌, ◌==◌, nat_lt, nat_le, Bool, true, false, not, ◌&&◌, List, [], ◌∷◌, ◌++◌, Option, Some, refl, sym, ap, ◌∙◌, arith}
+use Rattle.std.proofs.lemmas.Bool.{eqb-true, and_from, and_parts, le-leb}
 use Rattle.std.specs.List.{list_all, list_any, filter}
 use Rattle.std.specs.Option.{option_map_or}
-use Rattle.std.specs.Str.{bytes_eq}
+use Rattle.wm_base.proofs.Plain.{nat_le-itself, nat_le-more}
 use Rattle.wm_graph.specs.Parts.{Parts, table_of, space_of, version_of, row_of}
 use Rattle.wm_graph.specs.Rules.{keep_rules, are_counters, are_spaces, is_space, is_placed, is_short, are_versions, are_savepoints, has_few, are_rows, is_row, are_pieces, is_piece, collide, is_hist, same_position, are_hists, meet, is_touch, are_locks, differ}
 use Rattle.wm_spec.specs.declared.record.counters.Counters.{Counters}
@@ -14,13 +14,13 @@ use Rattle.wm_spec.specs.declared.record.space.Space.{Space}
 use Rattle.wm_spec.specs.declared.record.trace.Trace.{Trace}
 use Rattle.wm_state.specs.Writes.{longer_by}
 use Rattle.wm_state.proofs.Appending.{all_append, differ_append, find_before, find_behind}
-use Rattle.wm_state.proofs.Apart.{Ruled, ruled, keeps_all, found-passes}
+use Rattle.wm_state.proofs.Apart.{Ruled, ruled, each_space, keeps_all, found-passes}
 use Rattle.wm_state.proofs.Frames.{KeepRows}
-use Rattle.wm_state.proofs.Keeping.{le_of, le_itself, KeepTables, KeepTables-same, KeepSpaces, KeepSpaces-swap, KeepVersions-same, is_row-kept, is_piece-kept, is_hist-kept, are_savepoints-kept}
+use Rattle.wm_state.proofs.Keeping.{KeepTables, KeepTables-same, KeepSpaces, KeepSpaces-swap, KeepVersions-same, is_row-kept, is_piece-kept, is_hist-kept, are_savepoints-kept}
 use Rattle.wm_state.proofs.KeepingTurns.{are_locks-kept, are_marks-kept, are_turns-kept, turned-swap}
 use Rattle.wm_state.proofs.Named.{ruled_savepoints}
 use Rattle.wm_state.proofs.Respaced.{MayReplace, is_counted, space_here, spaces_replaced, versions_replaced}
-use Rattle.wm_state.proofs.Tests.{both, and_true, all_if, all_filter, all_swap, all_middle, differ_filter, none_if}
+use Rattle.wm_state.proofs.Tests.{all_if, all_filter, all_swap, all_middle, differ_filter, none_if}
 use Rattle.wm_written.proofs.Touched.{AreApart}
 
 -- what comes, and the tests of the pieces and of the touches that stay
@@ -65,16 +65,13 @@ pub record MayPut (p : Parts) (old new : Counters) (front : List Space) (a : Spa
   pub hists_differ : differ same_position e.hists ≡ true
   pub hists_new : list_all (λ (x : Hist). (x.space == a.number) && nat_le a.log_length x.position) e.hists ≡ true
 
-le_more : (n k : ℕ) → nat_le n (n + k) ≡ true
-le_more n k = grind arith
-
 -- ---- rows
 
 -- a row of before has none of the new stamps
 stamps_apart : (p : Parts) (next : ℕ) (rows : List RowRecord) → list_all (λ (r : RowRecord). nat_le next r.stamp) rows ≡ true → (x : RowRecord) → is_row (table_of p.tables) next x ≡ true
     → list_any (λ (r : RowRecord). x.stamp == r.stamp) rows ≡ false
 stamps_apart p next rows new x is =
-    none_if (λ (r : RowRecord). nat_le next r.stamp) (λ (r : RowRecord). x.stamp == r.stamp) (λ r le. below x.stamp r.stamp next (both (nat_lt x.stamp next) _ is).0 le) rows new
+    none_if (λ (r : RowRecord). nat_le next r.stamp) (λ (r : RowRecord). x.stamp == r.stamp) (λ r le. below x.stamp r.stamp next (and_parts (nat_lt x.stamp next) _ is).0 le) rows new
   where
     below : (m n k : ℕ) → nat_lt m k ≡ true → nat_le k n ≡ true → (m == n) ≡ false
     below m n k lt le = grind (arith, lt, le)
@@ -82,9 +79,9 @@ stamps_apart p next rows new x is =
 rows_kept : (p q : Parts) (next more : ℕ) (rows : List RowRecord) → nat_le next more ≡ true → q.tables ≡ p.tables → q.rows ≡ p.rows ++ rows → list_all (is_row (table_of p.tables) more) rows ≡ true
     → list_all (λ (r : RowRecord). nat_le next r.stamp) rows ≡ true → differ (λ (r q : RowRecord). r.stamp == q.stamp) rows ≡ true → are_rows p next ≡ true → are_rows q more ≡ true
 rows_kept p q next more rows le tables are well new apart e =
-    let h = both (differ (λ (r q : RowRecord). r.stamp == q.stamp) p.rows) (list_all (is_row (table_of p.tables) next) p.rows) e in
+    let h = and_parts (differ (λ (r q : RowRecord). r.stamp == q.stamp) p.rows) (list_all (is_row (table_of p.tables) next) p.rows) e in
     rw (tables, are)
-    (and_true (differ (λ (r q : RowRecord). r.stamp == q.stamp) (p.rows ++ rows)) (list_all (is_row (table_of p.tables) more) (p.rows ++ rows))
+    (and_from (differ (λ (r q : RowRecord). r.stamp == q.stamp) (p.rows ++ rows)) (list_all (is_row (table_of p.tables) more) (p.rows ++ rows))
     (differ_append (λ (r q : RowRecord). r.stamp == q.stamp) p.rows rows h.0 apart
     (all_if (is_row (table_of p.tables) next) (λ (x : RowRecord). not (list_any (λ (r : RowRecord). x.stamp == r.stamp) rows)) (λ x is. ap not (stamps_apart p next rows new x is)) p.rows h.1))
     (all_append (is_row (table_of p.tables) more) p.rows rows
@@ -96,8 +93,8 @@ pub rows_found : (p : Parts) (next : ℕ) (rows : List RowRecord) → are_rows p
     → (stamp : ℕ) (r : RowRecord) → row_of rows stamp ≡ Some r → row_of (p.rows ++ rows) stamp ≡ Some r
 rows_found p next rows e new stamp r found =
     find_behind (λ (x : RowRecord). x.stamp == stamp) p.rows rows
-    (none_if (is_row (table_of p.tables) next) (λ (x : RowRecord). x.stamp == stamp) (λ x is. below x.stamp r.stamp stamp next (both (nat_lt x.stamp next) _ is).0 is_new.1 is_new.0) p.rows
-    (both (differ (λ (r q : RowRecord). r.stamp == q.stamp) p.rows) (list_all (is_row (table_of p.tables) next) p.rows) e).1)
+    (none_if (is_row (table_of p.tables) next) (λ (x : RowRecord). x.stamp == stamp) (λ x is. below x.stamp r.stamp stamp next (and_parts (nat_lt x.stamp next) _ is).0 is_new.1 is_new.0) p.rows
+    (and_parts (differ (λ (r q : RowRecord). r.stamp == q.stamp) p.rows) (list_all (is_row (table_of p.tables) next) p.rows) e).1)
     ∙ found
   where
     is_new : ((r.stamp == stamp) ≡ true) × (nat_le next r.stamp ≡ true)
@@ -116,9 +113,9 @@ pub pieces_kept : (p q : Parts) (next more : ℕ) (rows : List RowRecord) (keep 
     → list_all (is_piece (table_of p.tables) (version_of p.versions) (row_of (p.rows ++ rows)) more) pieces ≡ true → differ collide pieces ≡ true
     → AreApart (filter keep p.pieces) pieces → are_pieces p next ≡ true → are_pieces q more ≡ true
 pieces_kept p q next more rows keep pieces le tables versions are_rows are well differ_so apart e =
-    let h = both (differ collide p.pieces) (list_all (is_piece (table_of p.tables) (version_of p.versions) (row_of p.rows) next) p.pieces) e in
+    let h = and_parts (differ collide p.pieces) (list_all (is_piece (table_of p.tables) (version_of p.versions) (row_of p.rows) next) p.pieces) e in
     rw are
-    (and_true (differ collide (filter keep p.pieces ++ pieces)) (list_all (is_piece (table_of q.tables) (version_of q.versions) (row_of q.rows) more) (filter keep p.pieces ++ pieces))
+    (and_from (differ collide (filter keep p.pieces ++ pieces)) (list_all (is_piece (table_of q.tables) (version_of q.versions) (row_of q.rows) more) (filter keep p.pieces ++ pieces))
     (differ_append collide (filter keep p.pieces) pieces (differ_filter collide keep p.pieces h.0) differ_so apart)
     (all_append (is_piece (table_of q.tables) (version_of q.versions) (row_of q.rows) more) (filter keep p.pieces) pieces
     (all_filter (is_piece (table_of q.tables) (version_of q.versions) (row_of q.rows) more) keep p.pieces
@@ -135,13 +132,13 @@ position_below m n k lt le = grind (arith, lt, le)
 positions_apart : (p : Parts) (next : ℕ) (a : Space) (hists : List Hist) → space_of p.spaces a.number ≡ Some a → list_all (λ (x : Hist). (x.space == a.number) && nat_le a.log_length x.position) hists ≡ true → (x : Hist)
     → is_hist (table_of p.tables) (space_of p.spaces) (row_of p.rows) next x ≡ true → list_any (same_position x) hists ≡ false
 positions_apart p next a hists there new x is =
-    none_if (λ (y : Hist). (y.space == a.number) && nat_le a.log_length y.position) (same_position x) (λ y e. by_space y (both (y.space == a.number) (nat_le a.log_length y.position) e) (x.space == y.space) refl) hists new
+    none_if (λ (y : Hist). (y.space == a.number) && nat_le a.log_length y.position) (same_position x) (λ y e. by_space y (and_parts (y.space == a.number) (nat_le a.log_length y.position) e) (x.space == y.space) refl) hists new
   where
     within : Space → Bool
     within s = nat_lt x.position s.log_length
 
     inside : option_map_or within (space_of p.spaces x.space) false ≡ true
-    inside = (both (is_short x.user) (option_map_or within (space_of p.spaces x.space) false) (both (is_short x.user && option_map_or within (space_of p.spaces x.space) false) _ is).0).1
+    inside = (and_parts (is_short x.user) (option_map_or within (space_of p.spaces x.space) false) (and_parts (is_short x.user && option_map_or within (space_of p.spaces x.space) false) _ is).0).1
 
     by_space : (y : Hist) → ((y.space == a.number) ≡ true) × (nat_le a.log_length y.position ≡ true) → (b : Bool) → (x.space == y.space) ≡ b → (b && (x.position == y.position)) ≡ false
     by_space y h false e = refl
@@ -152,9 +149,9 @@ pub hists_kept : (p q : Parts) (next more : ℕ) (a : Space) (hists : List Hist)
     → list_all (is_hist (table_of q.tables) (space_of q.spaces) (row_of q.rows) more) hists ≡ true → differ same_position hists ≡ true → list_all (λ (x : Hist). (x.space == a.number) && nat_le a.log_length x.position) hists ≡ true
     → are_hists p next ≡ true → are_hists q more ≡ true
 hists_kept p q next more a hists le tables spaces rows are there well apart new e =
-    let h = both (differ same_position p.hists) (list_all (is_hist (table_of p.tables) (space_of p.spaces) (row_of p.rows) next) p.hists) e in
+    let h = and_parts (differ same_position p.hists) (list_all (is_hist (table_of p.tables) (space_of p.spaces) (row_of p.rows) next) p.hists) e in
     rw are
-    (and_true (differ same_position (p.hists ++ hists)) (list_all (is_hist (table_of q.tables) (space_of q.spaces) (row_of q.rows) more) (p.hists ++ hists))
+    (and_from (differ same_position (p.hists ++ hists)) (list_all (is_hist (table_of q.tables) (space_of q.spaces) (row_of q.rows) more) (p.hists ++ hists))
     (differ_append same_position p.hists hists h.0 apart
     (all_if (is_hist (table_of p.tables) (space_of p.spaces) (row_of p.rows) next) (λ (x : Hist). not (list_any (same_position x) hists)) (λ x is. ap not (positions_apart p next a hists there new x is)) p.hists h.1))
     (all_append (is_hist (table_of q.tables) (space_of q.spaces) (row_of q.rows) more) p.hists hists
@@ -163,21 +160,15 @@ hists_kept p q next more a hists le tables spaces rows are there well apart new 
 
 -- ---- workspaces
 
-each_space : (spaces : List Space) → are_spaces spaces ≡ true → list_all (is_space (space_of spaces)) spaces ≡ true
-each_space spaces e =
-    let first = both (nat_le (length spaces) 1024 && is_some (space_of spaces 0)) _ e in
-    let numbers = both (differ (λ (s t : Space). s.number == t.number) spaces) _ first.1 in
-    (both (differ (λ (s t : Space). bytes_eq s.name t.name) spaces) (list_all (is_space (space_of spaces)) spaces) numbers.1).1
-
 -- a longer log is counted
 counted_longer : (spaces : ℕ → Option Space) (a : Space) (k : ℕ) → nat_le (a.log_length + k) (2 ^ 62) ≡ true → is_space spaces a ≡ true → is_counted (longer_by k a) ≡ true
 counted_longer spaces a k room e =
-    let h = both (is_placed spaces a && (is_short a.name && is_short a.writer)) (nat_le 1 a.next_place && (nat_le 1 a.next_implicit && nat_le a.log_length (2 ^ 62))) e in
-    let g = both (is_placed spaces a) (is_short a.name && is_short a.writer) h.0 in
-    let i = both (is_short a.name) (is_short a.writer) g.1 in
-    let j = both (nat_le 1 a.next_place) (nat_le 1 a.next_implicit && nat_le a.log_length (2 ^ 62)) h.1 in
-    let l = both (nat_le 1 a.next_implicit) (nat_le a.log_length (2 ^ 62)) j.1 in
-    and_true (is_short a.writer) _ i.1 (and_true (nat_le 1 a.next_place) _ j.0 (and_true (nat_le 1 a.next_implicit) _ l.0 room))
+    let h = and_parts (is_placed spaces a && (is_short a.name && is_short a.writer)) (nat_le 1 a.next_place && (nat_le 1 a.next_implicit && nat_le a.log_length (2 ^ 62))) e in
+    let g = and_parts (is_placed spaces a) (is_short a.name && is_short a.writer) h.0 in
+    let i = and_parts (is_short a.name) (is_short a.writer) g.1 in
+    let j = and_parts (nat_le 1 a.next_place) (nat_le 1 a.next_implicit && nat_le a.log_length (2 ^ 62)) h.1 in
+    let l = and_parts (nat_le 1 a.next_implicit) (nat_le a.log_length (2 ^ 62)) j.1 in
+    and_from (is_short a.writer) _ i.1 (and_from (nat_le 1 a.next_place) _ j.0 (and_from (nat_le 1 a.next_implicit) _ l.0 room))
 
 longer_may : (a : Space) (k : ℕ) → MayReplace a (longer_by k a)
 longer_may a k = record { number = refl; name = refl; parent = refl; birth = refl; base = refl }
@@ -207,7 +198,7 @@ keep-written p old new front a back k e may rules = keeps_all q new refl may.cou
     (ap (λ (c : Counters). are_pieces p c.next_stamp) same ∙ rule.pieces))
     (hists_kept p q old.next_stamp new.next_stamp a e.hists later (KeepTables-same p q refl) spaces (KeepRows-append p q e.rows refl) refl
     (ap (λ ss. space_of ss a.number) may.spaces ∙ space_here front back a a.number before refl) may.hists_well may.hists_differ may.hists_new (ap (λ (c : Counters). are_hists p c.next_stamp) same ∙ rule.hists))
-    (and_true (differ meet q.touches) (list_all (is_touch (table_of q.tables) (space_of q.spaces)) q.touches) may.touches_differ may.touches_well)
+    (and_from (differ meet q.touches) (list_all (is_touch (table_of q.tables) (space_of q.spaces)) q.touches) may.touches_differ may.touches_well)
     (are_locks-kept p q old.work new.work worked (KeepTables-same p q refl) spaces refl (ap (λ (c : Counters). are_locks p c.work) same ∙ rule.locks))
     (are_marks-kept p q (KeepTables-same p q refl) spaces refl rule.marks)
     (are_turns-kept p q spaces refl (turned-swap p q front back a (longer_by k a) refl refl may.spaces refl rule.turns) rule.turns)
@@ -225,16 +216,16 @@ keep-written p old new front a back k e may rules = keeps_all q new refl may.cou
         first_same b d h = cc
 
     later : nat_le old.next_stamp new.next_stamp ≡ true
-    later = ap (nat_le old.next_stamp) may.stamps ∙ le_more old.next_stamp k
+    later = ap (nat_le old.next_stamp) may.stamps ∙ nat_le-more old.next_stamp k
 
     worked : nat_le old.work new.work ≡ true
-    worked = le_of old.work new.work may.work
+    worked = le-leb old.work new.work may.work
 
     before : are_spaces (front ++ a ∷ back) ≡ true
     before = ap are_spaces (sym may.spaces) ∙ rule.spaces
 
     spaces : KeepSpaces p q
-    spaces = KeepSpaces-swap p q front back a (longer_by k a) refl refl (le_more a.log_length k) (le_itself a.next_place) refl may.spaces refl
+    spaces = KeepSpaces-swap p q front back a (longer_by k a) refl refl (nat_le-more a.log_length k) (nat_le-itself a.next_place) refl may.spaces refl
 
     savepoints : are_savepoints p old.work ≡ true
     savepoints = ap (λ (c : Counters). are_savepoints p c.work) same ∙ rule.savepoints

@@ -1,21 +1,23 @@
 -- Versions under which none stands, and that nothing names.
-use Rattle.std.proofs.Common.{◌≡◌, ℕ, ◌<◌, ◌==◌, nat_lt, Bool, true, false, not, ◌&&◌, ◌||◌, cond, if◌then◌else◌, List, [], ◌∷◌, Option, Some, None, is_some, refl, sym, ap, subst, ◌∙◌, arith}
+use Rattle.std.proofs.Common.{◌≡◌, ℕ, ◌==◌, nat_lt, Bool, true, false, cond, if◌then◌else◌, List, [], ◌∷◌, Option, Some, None, is_some, refl, sym, ap, subst, ◌∙◌, arith}
+use Rattle.std.proofs.lemmas.Bool.{and_parts, or_parts, true≢false}
 use Rattle.std.specs.List.{list_any}
 use Rattle.std.specs.Option.{option_map_or}
+use Rattle.wm_base.proofs.Plain.{and_last, less_apart, nat_lt-apart}
 use Rattle.wm_graph.specs.Parts.{Parts, space_of, version_of}
 use Rattle.wm_graph.specs.Rules.{keep_rules, is_version, stands_under}
 use Rattle.wm_spec.specs.declared.record.counters.Counters.{Counters}
-use Rattle.wm_spec.specs.declared.record.savepoint.Savepoint.{Savepoint}
 use Rattle.wm_spec.specs.declared.record.space.Space.{Space}
 use Rattle.wm_spec.specs.declared.record.version.Version.{Version}
 use Rattle.wm_tree.specs.Versions.{grow, AllBelow}
 use Rattle.wm_tree.specs.declared.version.Version.{Version as Node}
 use Rattle.wm_state.specs.Standing.{node_of, newest_first, latest}
 use Rattle.wm_state.specs.Effects.{IsLeaf, IsFree}
-use Rattle.wm_state.proofs.Tests.{bool_apart, both, either_false, none_if, found_fails}
+use Rattle.wm_state.proofs.Tests.{none_if}
 use Rattle.wm_state.proofs.Apart.{Ruled, ruled, ruled_versions, newest_record}
-use Rattle.wm_state.proofs.Named.{space_number, saved_space, saved_there, saved_base_there, bases_there, version_there, version_below}
+use Rattle.wm_state.proofs.Named.{saved_there, saved_base_there, bases_there, version_there, version_below}
 use Rattle.wm_state.proofs.Growing.{MayFork, forked, forked_of, found-below, below-next, same_counters}
+use Rattle.wm_state.proofs.Mapped.{found-fails}
 
 IsLeaf-grow : (version : ℕ) (x : Node) (ns : List Node) → (x.parent == version) ≡ false → IsLeaf version ns → IsLeaf version (grow x ns)
 IsLeaf-grow version x [] apart leaf = (apart, tt)
@@ -29,12 +31,12 @@ IsLeaf-grow version x (y ∷ ns) apart leaf = by_test (nat_lt y.number x.number)
 pub leaf_of : (version : ℕ) (vs : List Version) → list_any (λ (v : Version). v.parent == version) vs ≡ false → IsLeaf version (newest_first vs)
 leaf_of version [] e = tt
 leaf_of version (v ∷ vs) e =
-    let h = either_false (v.parent == version) (list_any (λ (w : Version). w.parent == version) vs) e in
+    let h = or_parts (v.parent == version) (list_any (λ (w : Version). w.parent == version) vs) e in
     IsLeaf-grow version (node_of v) (newest_first vs) h.0 (leaf_of version vs h.1)
 
 -- the parent of each version is below the next version
 parent-below : (spaces : ℕ → Option Space) (versions : ℕ → Option Version) (next : ℕ) (v : Version) → is_version spaces versions next v ≡ true → (v.parent == next) ≡ false
-parent-below spaces versions next v e = let h = both (nat_lt v.number next) _ e in by_space (spaces v.space) h.0 h.1
+parent-below spaces versions next v e = let h = and_parts (nat_lt v.number next) _ e in by_space (spaces v.space) h.0 h.1
   where
     below_zero : (m n k : ℕ) → nat_lt m n ≡ true → (k == 0) ≡ true → (k == n) ≡ false
     below_zero m n k lt zero_is = grind (arith, lt, zero_is)
@@ -44,25 +46,22 @@ parent-below spaces versions next v e = let h = both (nat_lt v.number next) _ e 
 
     by_parent : (s : Space) (b : Bool) → (v.parent == 0) ≡ b → nat_lt v.number next ≡ true → (if b then v.number == 1 else stands_under versions v s) ≡ true → (v.parent == next) ≡ false
     by_parent s true root lt h = below_zero v.number next v.parent lt root
-    by_parent s false root lt h = below v.number next v.parent lt (both (nat_lt v.parent v.number) _ h).0
+    by_parent s false root lt h = below v.number next v.parent lt (and_parts (nat_lt v.parent v.number) _ h).0
 
     by_space : (o : Option Space) → nat_lt v.number next ≡ true → option_map_or (λ (s : Space). if v.parent == 0 then v.number == 1 else stands_under versions v s) o false ≡ true → (v.parent == next) ≡ false
-    by_space None lt h = absurd (bool_apart (sym h))
+    by_space None lt h = absurd (true≢false (sym h))
     by_space (Some s) lt h = by_parent s (v.parent == 0) refl lt h
 
 -- the version that was just made is a leaf
 pub leaf_new : (p : Parts) (old new : Counters) (a : Space) (n : ℕ) (v : Version) → MayFork p old new a n v → keep_rules p ≡ true → IsLeaf v.number (newest_first (forked p new v).versions)
 leaf_new p old new a n v may e =
-    subst (λ ns. IsLeaf v.number ns) (sym (forked_of p old new a n v may e).versions) (apart_lt (latest p n) v.number parent, older)
+    subst (λ ns. IsLeaf v.number ns) (sym (forked_of p old new a n v may e).versions) (nat_lt-apart (latest p n) v.number parent, older)
   where
     r : Ruled p
     r = ruled p e
 
     number : v.number ≡ r.counters.next_version
     number = may.number ∙ ap (λ (c : Counters). c.next_version) (sym (same_counters p old r.counters may.one r.one))
-
-    apart_lt : (m k : ℕ) → nat_lt m k ≡ true → (m == k) ≡ false
-    apart_lt m k lt = grind (arith, lt)
 
     parent : nat_lt (latest p n) v.number ≡ true
     parent = ap (nat_lt (latest p n)) number
@@ -76,35 +75,6 @@ leaf_new p old new a n v may e =
 
 -- ---- versions that nothing names
 
--- a workspace with a parent was born from the version or sees it under its own
-abbrev pub names : ℕ → Space → Bool
-names version r = not (r.number == 0) && ((r.birth_version == version) || (r.base_version == version))
-
--- a savepoint of a workspace with a parent sees the version under its workspace's own
-abbrev pub rests_on : ℕ → Savepoint → Bool
-rests_on version x = not (x.space == 0) && (x.base_version == version)
-
--- a version that no record of a savepoint and of a workspace names is free
-pub free_of : (p : Parts) (version : ℕ) → list_any (λ (x : Savepoint). x.version == version) p.savepoints ≡ false → list_any (rests_on version) p.savepoints ≡ false → list_any (names version) p.spaces ≡ false → IsFree p version
-free_of p version unsaved unrested unnamed = record {
-  kept = λ n making x found. found_fails (λ (x : Savepoint). (x.space == n) && (x.making == making)) (λ (x : Savepoint). x.version == version) p.savepoints x found unsaved;
-  kept_bases = λ n making x some found.
-      second (not (x.space == 0)) (x.base_version == version) (ap (λ k. not (k == 0)) (saved_space p n making x found) ∙ not_zero n some)
-      (found_fails (λ (y : Savepoint). (y.space == n) && (y.making == making)) (rests_on version) p.savepoints x found unrested);
-  births = λ n r some found. (either_false (r.birth_version == version) (r.base_version == version) (named n r some found)).0;
-  bases = λ n r some found. (either_false (r.birth_version == version) (r.base_version == version) (named n r some found)).1;
-}
-  where
-    not_zero : (m : ℕ) → 0 < m → not (m == 0) ≡ true
-    not_zero m lt = grind (arith, lt)
-
-    second : (a b : Bool) → a ≡ true → (a && b) ≡ false → b ≡ false
-    second a b e h = sym (ap (λ t. t && b) e) ∙ h
-
-    named : (n : ℕ) (r : Space) → 0 < n → space_of p.spaces n ≡ Some r → ((r.birth_version == version) || (r.base_version == version)) ≡ false
-    named n r some found = second (not (r.number == 0)) _ (ap (λ k. not (k == 0)) (space_number p n r found) ∙ not_zero n some)
-        (found_fails (λ (x : Space). x.number == n) (names version) p.spaces r found unnamed)
-
 -- a version above all others is free
 free_above : (p : Parts) (number : ℕ) → keep_rules p ≡ true → AllBelow number (newest_first p.versions) → IsFree p number
 free_above p number e below = record {
@@ -114,9 +84,6 @@ free_above p number e below = record {
   bases = λ n r some found. apart r.base_version (version_there (version_of p.versions) r.base_version r.parent (bases_there p e n r some found).base);
 }
   where
-    less_apart : (m k : ℕ) → m < k → (m == k) ≡ false
-    less_apart m k lt = grind (arith, lt)
-
     apart : (v : ℕ) → is_some (version_of p.versions v) ≡ true → (v == number) ≡ false
     apart v there = less_apart v number (version_below p e number below v there)
 

@@ -6,6 +6,7 @@ use Rattle.std.proofs.lemmas.Option.{slice_get_within}
 use Rattle.std.specs.Bool.{then_some}
 use Rattle.std.specs.List.{slice_get}
 use Rattle.std.specs.Option.{option_or, option_map, option_and_then}
+use Rattle.wm_base.proofs.Plain.{option_or-none}
 use Rattle.wm_spec.specs.Lists.{Entry}
 use Rattle.wm_spec.specs.declared.record.hist.Hist.{Hist}
 use Rattle.wm_spec.specs.declared.record.table.Table.{Table}
@@ -59,10 +60,6 @@ unfolding at_from
 from-below k [] i lt = refl
 from-below k (x ∷ xs) i lt = rw (ne_eqb k i (λ same. omega (arith, lt, same))) (from-below (k + 1) xs i (omega (arith, lt)))
 
-or-none : {A : Type 0} (o : Option A) → option_or o None ≡ o
-or-none None = refl
-or-none (Some x) = refl
-
 -- what is made of the entry at a position of the one list or of the other
 made-append : {A B : Type 0} (f : A → Option B) (xs ys : List A) (i : ℕ) → option_or (option_and_then f (slice_get xs i)) (option_and_then f (at_from (length xs) ys i)) ≡ option_and_then f (slice_get (xs ++ ys) i)
 made-append {A = A} f xs ys i = by_first (slice_get xs i) refl ∙ ap (option_and_then f) (sym (get-append xs ys i))
@@ -70,7 +67,7 @@ made-append {A = A} f xs ys i = by_first (slice_get xs i) refl ∙ ap (option_an
     by_first : (o : Option A) → slice_get xs i ≡ o
         → option_or (option_and_then f (slice_get xs i)) (option_and_then f (at_from (length xs) ys i)) ≡ option_and_then f (option_or (slice_get xs i) (at_from (length xs) ys i))
     by_first None is = rw is refl
-    by_first (Some x) is = rw (is, from-below (length xs) ys i (slice_get_within xs i x is)) (or-none (f x))
+    by_first (Some x) is = rw (is, from-below (length xs) ys i (slice_get_within xs i x is)) (option_or-none (f x))
 
 -- ---- their records
 
@@ -129,4 +126,4 @@ pub logged-away : (tables : List Table) (n m k : ℕ) (hists : List Hist) (es : 
 logged-away tables n m k hists es i other =
     ap (option_map logged) (find-append (λ (x : Hist). (x.space == m) && (x.position == i)) hists (hists_kept tables n k es))
     ∙ ap (λ o. option_map logged (option_or (hist_at hists m i) o)) (logged-elsewhere tables n m k es i other)
-    ∙ ap (option_map logged) (or-none (hist_at hists m i))
+    ∙ ap (option_map logged) (option_or-none (hist_at hists m i))

@@ -1,6 +1,7 @@
 -- What versions hold once one of them, under which none stands, has more pieces.
-use Rattle.std.proofs.Common.{◌≡◌, ℕ, Bool, true, false, cond, List, [], ◌∷◌, Option, Some, None, refl, sym, ap, ◌∙◌, ◌==◌}
+use Rattle.std.proofs.Common.{◌≡◌, ℕ, Bool, true, false, cond, List, [], ◌∷◌, Option, None, refl, sym, ap, ◌∙◌, ◌==◌}
 use Rattle.std.specs.Option.{option_or}
+use Rattle.wm_base.proofs.Plain.{option_or_assoc}
 use Rattle.wm_period.specs.Pieces.{Held}
 use Rattle.wm_spec.specs.Lists.{Cell}
 use Rattle.wm_spec.specs.declared.record.piece.PieceRecord.{PieceRecord}
@@ -32,14 +33,10 @@ seen-here version old new c gain same gained [] leaf there = cc
 seen-here version old new c gain same gained (x ∷ older) leaf there =
     by_test (x.number == version) refl (seen-away version old new c same older leaf.1 x.parent leaf.0) (λ below. seen-here version old new c gain same gained older leaf.1 below)
   where
-    or_assoc : (a b d : Option Held) → option_or (option_or a b) d ≡ option_or a (option_or b d)
-    or_assoc None b d = refl
-    or_assoc (Some a) b d = refl
-
     by_test : (b : Bool) → (x.number == version) ≡ b → seen_at new older x.parent c ≡ seen_at old older x.parent c
         → (is_there version older ≡ true → seen_at new older version c ≡ option_or gain (seen_at old older version c))
         → seen_at new (x ∷ older) version c ≡ option_or gain (seen_at old (x ∷ older) version c)
-    by_test true e up along = rw (e, gained, up) (or_assoc gain (stored_at old version c) (seen_at old older x.parent c))
+    by_test true e up along = rw (e, gained, up) (option_or_assoc gain (stored_at old version c) (seen_at old older x.parent c))
     by_test false e up along = rw e (along (sym (ap (λ b. cond b true (is_there version older)) e) ∙ there))
 
 -- the same of what stands above a base
@@ -66,12 +63,8 @@ own-here version old new c gain same gained base above [] leaf there = cc
 own-here version old new c gain same gained base above (x ∷ older) leaf there =
     by_test (x.number == version) refl (own-away version old new c same base older leaf.1 x.parent leaf.0) (λ below. own-here version old new c gain same gained base above older leaf.1 below)
   where
-    or_assoc : (a b d : Option Held) → option_or (option_or a b) d ≡ option_or a (option_or b d)
-    or_assoc None b d = refl
-    or_assoc (Some a) b d = refl
-
     by_test : (b : Bool) → (x.number == version) ≡ b → own_at new older base x.parent c ≡ own_at old older base x.parent c
         → (is_there version older ≡ true → own_at new older base version c ≡ option_or gain (own_at old older base version c))
         → own_at new (x ∷ older) base version c ≡ option_or gain (own_at old (x ∷ older) base version c)
-    by_test true e up along = rw (above, e, gained, up) (or_assoc gain (stored_at old version c) (own_at old older base x.parent c))
+    by_test true e up along = rw (above, e, gained, up) (option_or_assoc gain (stored_at old version c) (own_at old older base x.parent c))
     by_test false e up along = rw (above, e) (along (sym (ap (λ b. cond b true (is_there version older)) e) ∙ there))

@@ -1,7 +1,8 @@
 -- The records stand for the state after the batch of a line that writes entries in a version more.
-use Rattle.std.proofs.Common.{◌≡◌, ℕ, ◌+◌, ◌^◌, ◌≤◌, ◌<◌, ◌==◌, nat_le, Bool, true, false, cond, if◌then◌else◌, List, [], ◌∷◌, ◌++◌, map, Option, Some, None, is_some, refl, sym, ap, subst, ◌∙◌, length, arith}
-use Rattle.std.proofs.lemmas.Bool.{eq-eqb}
+use Rattle.std.proofs.Common.{◌≡◌, ℕ, ◌+◌, ◌^◌, ◌≤◌, ◌==◌, nat_le, Bool, true, false, cond, if◌then◌else◌, List, [], ◌∷◌, ◌++◌, map, Option, Some, None, is_some, refl, sym, ap, subst, ◌∙◌, length}
+use Rattle.std.proofs.lemmas.Bool.{eq-eqb, true≢false}
 use Rattle.std.specs.List.{list_all}
+use Rattle.wm_base.proofs.Plain.{less_apart}
 use Rattle.wm_graph.specs.Parts.{Parts, parts_of, table_of}
 use Rattle.wm_graph.specs.Rules.{keep_rules, are_counters, is_short}
 use Rattle.wm_spec.specs.Lists.{Entry}
@@ -29,7 +30,7 @@ use Rattle.wm_state.proofs.Forking.{FieldsStand-forked, Stands-forked}
 use Rattle.wm_state.proofs.Growing.{MayFork, forked, forked_of, keep-forked}
 use Rattle.wm_state.proofs.Planned.{found_still, AllUnder-set, AllUnder-next}
 use Rattle.wm_state.proofs.Settled.{Places}
-use Rattle.wm_state.proofs.Tests.{bool_apart, none_if}
+use Rattle.wm_state.proofs.Tests.{none_if}
 use Rattle.wm_written.proofs.Behind.{new_records}
 use Rattle.wm_written.proofs.Dropping.{dropped-set}
 use Rattle.wm_written.proofs.Forks.{parts-forked}
@@ -155,18 +156,15 @@ module _ (ss : List Stored) (counters_id space_id id : ℕ) (old mid new : Count
     sorted = Ascend-set id (Some (records.Version v)) first first_sorted;
     counters =
         record_at-set id (Some (records.Version v)) first first_sorted counters_id
-        ∙ rw (lt_apart counters_id id (under_found id ss counters_id (records.Counters old) at.under at.counters))
+        ∙ rw (less_apart counters_id id (under_found id ss counters_id (records.Counters old) at.under at.counters))
         (record_at-set counters_id (Some (records.Counters mid)) ss at.sorted counters_id ∙ rw (eq-eqb counters_id counters_id refl) refl);
     one = ap (λ (q : Parts). q.counters) parts;
     space =
         record_at-set id (Some (records.Version v)) first first_sorted space_id
-        ∙ rw (lt_apart space_id id (under_found id ss space_id (records.Space a) at.under at.space)) (found_still ss counters_id space_id old mid (records.Space a) at.sorted at.counters at.space (λ c e. cc));
+        ∙ rw (less_apart space_id id (under_found id ss space_id (records.Space a) at.under at.space)) (found_still ss counters_id space_id old mid (records.Space a) at.sorted at.counters at.space (λ c e. cc));
     under = subst (λ rs. AllUnder (id + 1) rs) (sym (set-behind first id (records.Version v) under_first)) (AllUnder-next id first (records.Version v) under_first);
   }
     where
-      lt_apart : (m k : ℕ) → m < k → (m == k) ≡ false
-      lt_apart m k lt = grind (arith, lt)
-
       under_first : AllUnder id first
       under_first = AllUnder-set id ss counters_id (records.Counters old) (records.Counters mid) at.sorted at.counters at.under
 
@@ -174,12 +172,9 @@ module _ (ss : List Stored) (counters_id space_id id : ℕ) (old mid new : Count
   kept_id : is_dropped ids id ≡ false
   kept_id = none_if (λ k. is_some (record_at ss k)) (λ k. k == id) (λ k there. below k (record_at ss k) refl there) ids r.there
     where
-      lt_apart : (m k : ℕ) → m < k → (m == k) ≡ false
-      lt_apart m k lt = grind (arith, lt)
-
       below : (k : ℕ) (o : Option Record) → record_at ss k ≡ o → is_some o ≡ true → (k == id) ≡ false
-      below k None found there = absurd (bool_apart (sym there))
-      below k (Some x) found there = lt_apart k id (under_found id ss k x at.under found)
+      below k None found there = absurd (true≢false (sym there))
+      below k (Some x) found there = less_apart k id (under_found id ss k x at.under found)
 
   -- and the entries may be written there
   between : Writing after counters_id space_id (id + 1) mid new a table es ids drawn traced

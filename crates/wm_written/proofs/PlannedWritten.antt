@@ -1,8 +1,9 @@
 -- The records stand for the state after the batch of a line that writes entries.
 use Rattle.std.proofs.Common.{◌≡◌, ℕ, ◌+◌, ◌^◌, ◌≤◌, ◌==◌, nat_lt, nat_le, Bool, true, false, not, List, [], ◌∷◌, ◌++◌, map, Option, Some, None, is_some, refl, sym, ap, subst, ◌∙◌, length, length-append, arith}
-use Rattle.std.proofs.lemmas.Bool.{eqb-true}
+use Rattle.std.proofs.lemmas.Bool.{eqb-true, and_parts}
 use Rattle.std.specs.List.{list_all, filter}
 use Rattle.std.specs.Option.{option_map, option_map_or}
+use Rattle.wm_base.proofs.Plain.{nat_le-itself, nat_le-more}
 use Rattle.wm_base.specs.declared.row.Row.{Row}
 use Rattle.wm_graph.specs.Parts.{Parts, parts_of, as_space, table_of, space_of, version_of, row_of}
 use Rattle.wm_graph.specs.Rules.{keep_rules, are_counters, are_spaces, are_rows, are_pieces, is_piece, is_short, is_touch, is_trace, collide, differ, meet}
@@ -30,13 +31,13 @@ use Rattle.wm_state.proofs.Appending.{find_before}
 use Rattle.wm_state.proofs.Apart.{Ruled, ruled, apart_of, newest_record}
 use Rattle.wm_state.proofs.ById.{Ascend-set}
 use Rattle.wm_state.proofs.ByKind.{kinds, Split, split_of, set-split}
-use Rattle.wm_state.proofs.Keeping.{KeepTables-same, KeepVersions-same, is_piece-kept, le_itself}
+use Rattle.wm_state.proofs.Keeping.{KeepTables-same, KeepVersions-same, is_piece-kept}
 use Rattle.wm_state.proofs.DrawingEnds.{ends-beside}
 use Rattle.wm_state.proofs.Planned.{counted, found_still, AllUnder-filter, AllUnder-set, applied-append}
 use Rattle.wm_state.proofs.Planning.{recounted, parts-spaced, spaces-split}
 use Rattle.wm_state.proofs.Respaced.{space_here, space_elsewhere}
 use Rattle.wm_state.proofs.Settled.{Places}
-use Rattle.wm_state.proofs.Tests.{both, all_if, all_filter}
+use Rattle.wm_state.proofs.Tests.{all_if, all_filter}
 use Rattle.wm_written.proofs.Behind.{new_records, parts-entered, parts-kept}
 use Rattle.wm_written.proofs.DrawingTouched.{kept-apart}
 use Rattle.wm_written.proofs.DrawnWell.{piece-parts}
@@ -167,8 +168,8 @@ before p old rules one = record {
   rows = ap (λ (c : Counters). are_rows p c.next_stamp) same_counters ∙ rule.rows;
   pieces = parts.1;
   differ = parts.0;
-  touches = (both (differ meet p.touches) (list_all (is_touch (table_of p.tables) (space_of p.spaces)) p.touches) rule.touches).1;
-  apart = (both (differ meet p.touches) (list_all (is_touch (table_of p.tables) (space_of p.spaces)) p.touches) rule.touches).0;
+  touches = (and_parts (differ meet p.touches) (list_all (is_touch (table_of p.tables) (space_of p.spaces)) p.touches) rule.touches).1;
+  apart = (and_parts (differ meet p.touches) (list_all (is_touch (table_of p.tables) (space_of p.spaces)) p.touches) rule.touches).0;
 }
   where
     rule : Ruled p
@@ -181,11 +182,11 @@ before p old rules one = record {
         first_same c d h = cc
 
     parts : (differ collide p.pieces ≡ true) × (list_all (is_piece (table_of p.tables) (version_of p.versions) (row_of p.rows) old.next_stamp) p.pieces ≡ true)
-    parts = both (differ collide p.pieces) (list_all (is_piece (table_of p.tables) (version_of p.versions) (row_of p.rows) old.next_stamp) p.pieces) (ap (λ (c : Counters). are_pieces p c.next_stamp) same_counters ∙ rule.pieces)
+    parts = and_parts (differ collide p.pieces) (list_all (is_piece (table_of p.tables) (version_of p.versions) (row_of p.rows) old.next_stamp) p.pieces) (ap (λ (c : Counters). are_pieces p c.next_stamp) same_counters ∙ rule.pieces)
 
 -- the touches of a workspace are at positions that its log has
 pub all_behind : (p : Parts) (n : ℕ) (a : Space) (xs : List Trace) → space_of p.spaces n ≡ Some a → list_all (is_touch (table_of p.tables) (space_of p.spaces)) xs ≡ true → list_all (is_behind n a.log_length) xs ≡ true
-all_behind p n a xs found = all_if (is_touch (table_of p.tables) (space_of p.spaces)) (is_behind n a.log_length) (λ x e. by_space x (x.space == n) refl (both (is_trace (table_of p.tables) (space_of p.spaces) x) _ e).1) xs
+all_behind p n a xs found = all_if (is_touch (table_of p.tables) (space_of p.spaces)) (is_behind n a.log_length) (λ x e. by_space x (x.space == n) refl (and_parts (is_trace (table_of p.tables) (space_of p.spaces) x) _ e).1) xs
   where
     by_space : (x : Trace) (b : Bool) → (x.space == n) ≡ b → option_map_or (λ (s : Space). nat_lt x.position s.log_length) (space_of p.spaces x.space) false ≡ true → is_behind n a.log_length x ≡ true
     by_space x false e h = rw e refl
@@ -215,16 +216,13 @@ module _ (p : Parts) (old new : Counters) (a : Space) (table place : ℕ) (es : 
       apart same = grind (arith, other, same)
 
   in_time : nat_le (old.next_stamp + length es) new.next_stamp ≡ true
-  in_time = ap (nat_le (old.next_stamp + length es)) may.stamps ∙ le_itself (old.next_stamp + length es)
+  in_time = ap (nat_le (old.next_stamp + length es)) may.stamps ∙ nat_le-itself (old.next_stamp + length es)
 
   later : nat_le old.next_stamp new.next_stamp ≡ true
-  later = ap (nat_le old.next_stamp) may.stamps ∙ le_more old.next_stamp (length es)
-    where
-      le_more : (m k : ℕ) → nat_le m (m + k) ≡ true
-      le_more m k = grind arith
+  later = ap (nat_le old.next_stamp) may.stamps ∙ nat_le-more old.next_stamp (length es)
 
   rows_new : list_all (λ (r : RowRecord). nat_le old.next_stamp r.stamp) (rows_in es) ≡ true
-  rows_new = rows_from table old.next_stamp old.next_stamp es may.stamped (le_itself old.next_stamp)
+  rows_new = rows_from table old.next_stamp old.next_stamp es may.stamped (nat_le-itself old.next_stamp)
 
   found_new : (stamp : ℕ) (r : RowRecord) → row_of (rows_in es) stamp ≡ Some r → row_of (p.rows ++ rows_in es) stamp ≡ Some r
   found_new = rows_found p old.next_stamp (rows_in es) was.rows rows_new
@@ -252,9 +250,9 @@ module _ (p : Parts) (old new : Counters) (a : Space) (table place : ℕ) (es : 
     touches_well = marked_longer (table_of p.tables) (space_of p.spaces) (space_of (front ++ b ∷ back)) a.number place a es p.touches (filter news.stay p.touches ++ news.touches) may.space space_after space_away
         (given a.next_place are.last) (on_tables (table_of p.tables) table old.next_stamp es may.stamped may.well) was.touches marked;
     hists_well = hists_well p.tables (table_of p.tables) (space_of (front ++ b ∷ back)) (row_of (p.rows ++ rows_in es)) table old.next_stamp new.next_stamp a.number a.log_length b es may.stamped
-        in_time may.well may.users space_after (le_itself (a.log_length + length es)) found_new;
+        in_time may.well may.users space_after (nat_le-itself (a.log_length + length es)) found_new;
     hists_differ = hists_differ p.tables a.number a.log_length es;
-    hists_new = hists_on p.tables a.number a.log_length a.log_length es (le_itself a.log_length);
+    hists_new = hists_on p.tables a.number a.log_length a.log_length es (nat_le-itself a.log_length);
   }
     where
       well : PieceRecord → Bool

@@ -1,11 +1,12 @@
 -- New marks drawn over old touches: what the touches reach then.
 use Rattle.std.proofs.Common.{◌≡◌, ◌≢◌, ℕ, zero, suc, ◌+◌, ◌<◌, ◌≤◌, ◌==◌, nat_lt, max, Bool, true, false, not, ◌&&◌, ◌||◌, cond, if◌then◌else◌, List, [], ◌∷◌, ◌++◌, map, Option, None, Some, is_some, refl, sym, ap, ◌∙◌, ◌⊎◌, inl, inr, arith}
-use Rattle.std.proofs.lemmas.Bool.{cases_eq, eq-eqb, eqb-true, ne_eqb}
+use Rattle.std.proofs.lemmas.Bool.{cases_eq, eq-eqb, eqb-true, ne_eqb, and_from, and_parts, not-true, or_parts, true≢false}
 use Rattle.std.proofs.lemmas.Bool.Decides.{nat_tests}
 use Rattle.std.proofs.lemmas.List.Elements.{filter_map-append}
 use Rattle.std.specs.Bool.{then_some}
 use Rattle.std.specs.List.{cons_option, filter, list_all, list_any}
 use Rattle.std.specs.Option.{option_map, option_map_or, option_or}
+use Rattle.wm_base.proofs.Plain.{and_last, eqb-turned, nat_lt-zero}
 use Rattle.wm_base.specs.declared.kind.Kind.{Kind}
 use Rattle.wm_base.specs.declared.kind.Kind.TheVariants.{Insert, Update, Delete}
 use Rattle.wm_graph.specs.Rules.{as_drawn, collide, differ, meet}
@@ -22,7 +23,7 @@ use Rattle.wm_state.specs.Touching.{AreMarked, Touched, drawn_all, drawn_as, is_
 use Rattle.wm_state.proofs.Appending.{differ_append}
 use Rattle.wm_state.proofs.DrawingEnds.{ends-beside}
 use Rattle.wm_state.proofs.Laying.{stored-append}
-use Rattle.wm_state.proofs.Tests.{all_filter, and_true, bool_apart, both, differ_filter, either_false, not_true}
+use Rattle.wm_state.proofs.Tests.{all_filter, differ_filter}
 use Rattle.wm_written.proofs.DrawingTouched.{kept-apart}
 use Rattle.wm_written.proofs.Touched.{all-held, clear-held, only-one}
 
@@ -71,11 +72,8 @@ under-none (suc b) = ap (max 0) (under-none b)
 -- a piece more, where nothing else is held at its version
 under-one : (x : PieceRecord) (c : Cell) (f : ℕ → Option Held) → (covers_at x x.version c ≡ true → f x.version ≡ None) → (below : ℕ)
     → under (λ w. option_or (then_some (covers_at x w c) (held_by x)) (f w)) below ≡ max (if nat_lt x.version below && in_cells x.cells c then x.stamp + 1 else 0) (under f below)
-under-one x c f free zero = none (nat_lt x.version 0) (in_cells x.cells c) (less_none x.version)
+under-one x c f free zero = none (nat_lt x.version 0) (in_cells x.cells c) (nat_lt-zero x.version)
   where
-    less_none : (n : ℕ) → nat_lt n 0 ≡ false
-    less_none n = grind (arith, nat_tests)
-
     none : (a b : Bool) → a ≡ false → 0 ≡ max (if a && b then x.stamp + 1 else 0) 0
     none a b e = rw e refl
 under-one x c f free (suc b) =
@@ -110,9 +108,9 @@ under-one x c f free (suc b) =
 pub reached-held : (c : Cell) (below : ℕ) (xs : List PieceRecord) → differ collide xs ≡ true → reached_in xs below c ≡ under (λ w. stored_at xs w c) below
 reached-held c below [] apart = under-none below
 reached-held c below (x ∷ xs) apart =
-    let h = both (not (list_any (collide x) xs)) (differ collide xs) apart in
+    let h = and_parts (not (list_any (collide x) xs)) (differ collide xs) apart in
     ap (max (if nat_lt x.version below && in_cells x.cells c then x.stamp + 1 else 0)) (reached-held c below xs h.1)
-    ∙ sym (under-one x c (λ w. stored_at xs w c) (λ covered. only-one x x.version c covered xs (not_true (list_any (collide x) xs) h.0)) below)
+    ∙ sym (under-one x c (λ w. stored_at xs w c) (λ covered. only-one x x.version c covered xs (not-true (list_any (collide x) xs) h.0)) below)
 
 -- all that is held is below a bound
 under-bound : (g : ℕ → Option Held) (start : ℕ) → ((w : ℕ) → past (g w) ≤ start) → (below : ℕ) → under g below ≤ start
@@ -125,10 +123,7 @@ under-bound g start low (suc b) = lower (past (g b)) (under g b) (low b) (under-
 -- where new ones are said at one place, and come after all that was there, the greatest is theirs
 under-new : (f g : ℕ → Option Held) (place top start : ℕ) (t : Bool) → ((w : ℕ) → option_map next_of (f w) ≡ then_some ((w == place) && t) top) → ((w : ℕ) → past (g w) ≤ start) → (t ≡ true → start < top)
     → (below : ℕ) → under (λ w. option_or (f w) (g w)) below ≡ (if nat_lt place below && t then top else under g below)
-under-new f g place top start t new low above zero = rw (less_none place) refl
-  where
-    less_none : (n : ℕ) → nat_lt n 0 ≡ false
-    less_none n = grind (arith, nat_tests)
+under-new f g place top start t new low above zero = rw (nat_lt-zero place) refl
 under-new f g place top start t new low above (suc b) =
     ap (max (past (option_or (f b) (g b)))) (under-new f g place top start t new low above b)
     ∙ by_place (cases_eq b place)
@@ -171,7 +166,7 @@ under-new f g place top start t new low above (suc b) =
         rw (not_less place b same, less_next place b same) (at_it t above (new b ∙ ap (λ e. then_some (e && t) top) (eq-eqb b place same)))
     by_place (inr other) =
         rw (less_same place b other, nothing_new (f b) (new b ∙ ap (λ e. then_some (e && t) top) (ne_eqb b place other)))
-        (apart (nat_lt place b && t) (λ is. above (both (nat_lt place b) t is).1))
+        (apart (nat_lt place b && t) (λ is. above (and_parts (nat_lt place b) t is).1))
 
 -- ---- old pieces beside what is drawn
 
@@ -197,26 +192,23 @@ beside-apart news old drawn apart drawing = differ_append collide (filter (is_cl
 pub view-apart : (n : ℕ) (xs : List Trace) → differ meet xs ≡ true → differ collide (drawn_all n xs) ≡ true
 view-apart n [] apart = refl
 view-apart n (x ∷ xs) apart =
-    let h = both (not (list_any (meet x) xs)) (differ meet xs) apart in
-    by_space (x.space == n) refl (not_true (list_any (meet x) xs) h.0) (view-apart n xs h.1)
+    let h = and_parts (not (list_any (meet x) xs)) (differ meet xs) apart in
+    by_space (x.space == n) refl (not-true (list_any (meet x) xs) h.0) (view-apart n xs h.1)
   where
-    second : (a b : Bool) → a ≡ true → (a && b) ≡ false → b ≡ false
-    second a b e h = sym (ap (λ t. t && b) e) ∙ h
-
     none_met : (x.space == n) ≡ true → (ys : List Trace) → list_any (meet x) ys ≡ false → list_any (collide (as_drawn x)) (drawn_all n ys) ≡ false
     none_met here [] none = refl
     none_met here (y ∷ ys) none =
-        let h = either_false (meet x y) (list_any (meet x) ys) none in
+        let h = or_parts (meet x y) (list_any (meet x) ys) none in
         by_other (y.space == n) refl h.0 (none_met here ys h.1)
       where
         by_other : (b : Bool) → (y.space == n) ≡ b → meet x y ≡ false → list_any (collide (as_drawn x)) (drawn_all n ys) ≡ false
             → list_any (collide (as_drawn x)) (cons_option (then_some b (as_drawn y)) (drawn_all n ys)) ≡ false
         by_other true also free rest =
-            rw (second (x.space == y.space) (collide (as_drawn x) (as_drawn y)) (eq-eqb x.space y.space (eqb-true x.space n here ∙ sym (eqb-true y.space n also))) free) rest
+            rw (and_last (x.space == y.space) (collide (as_drawn x) (as_drawn y)) (eq-eqb x.space y.space (eqb-true x.space n here ∙ sym (eqb-true y.space n also))) free) rest
         by_other false other free rest = rest
 
     by_space : (b : Bool) → (x.space == n) ≡ b → list_any (meet x) xs ≡ false → differ collide (drawn_all n xs) ≡ true → differ collide (cons_option (then_some b (as_drawn x)) (drawn_all n xs)) ≡ true
-    by_space true here free rest = and_true (not (list_any (collide (as_drawn x)) (drawn_all n xs))) (differ collide (drawn_all n xs)) (ap not (none_met here xs free)) rest
+    by_space true here free rest = and_from (not (list_any (collide (as_drawn x)) (drawn_all n xs))) (differ collide (drawn_all n xs)) (ap not (none_met here xs free)) rest
     by_space false other free rest = rest
 
 -- ---- what is marked, as pieces
@@ -233,13 +225,13 @@ is_plain x = is_insert x.kind && not x.gone
 -- what is plain goes back to a touch, and comes from it
 back : (n : ℕ) (x : PieceRecord) → is_plain x ≡ true → as_drawn (trace_of n x) ≡ x
 back n x plain =
-    let h = both (is_insert x.kind) (not x.gone) plain in
-    ap (λ k. with_both k false) (sym (insert x.kind h.0)) ∙ ap (λ g. with_both x.kind g) (sym (not_true x.gone h.1))
+    let h = and_parts (is_insert x.kind) (not x.gone) plain in
+    ap (λ k. with_both k false) (sym (insert x.kind h.0)) ∙ ap (λ g. with_both x.kind g) (sym (not-true x.gone h.1))
   where
     insert : (k : Kind) → is_insert k ≡ true → k ≡ Insert
     insert Insert e = refl
-    insert Update e = absurd (bool_apart (sym e))
-    insert Delete e = absurd (bool_apart (sym e))
+    insert Update e = absurd (true≢false (sym e))
+    insert Delete e = absurd (true≢false (sym e))
 
     with_both : Kind → Bool → PieceRecord
     with_both k g = record { version = x.version; cells = x.cells; stamp = x.stamp; kind = k; gone = g }
@@ -261,7 +253,7 @@ drawn-plain n news drawn old plain drawing =
 view-back : (n : ℕ) (xs : List PieceRecord) → list_all is_plain xs ≡ true → drawn_all n (map (trace_of n) xs) ≡ xs
 view-back n [] plain = refl
 view-back n (x ∷ xs) plain =
-    let h = both (is_plain x) (list_all is_plain xs) plain in
+    let h = and_parts (is_plain x) (list_all is_plain xs) plain in
     rw (eq-eqb n n refl) (ap (λ y. y ∷ drawn_all n (map (trace_of n) xs)) (back n x h.0) ∙ ap (λ ys. x ∷ ys) (view-back n xs h.1))
 
 -- and not at all in another workspace
@@ -296,7 +288,7 @@ view-all m n news (x ∷ xs) apart = by_space (x.space == m) (x.space == n) refl
 
     by_space : (b d : Bool) → (x.space == m) ≡ b → (x.space == n) ≡ d → drawn_all m (filter (is_unmet n news) xs) ≡ drawn_all m xs
         → drawn_all m (cond (option_map_or (is_clear news) (then_some d (as_drawn x)) true) (x ∷ filter (is_unmet n news) xs) (filter (is_unmet n news) xs)) ≡ cons_option (then_some b (as_drawn x)) (drawn_all m xs)
-    by_space true true here also rest = absurd (bool_apart (sym (eq-eqb m n (sym (eqb-true x.space m here) ∙ eqb-true x.space n also)) ∙ apart))
+    by_space true true here also rest = absurd (true≢false (sym (eq-eqb m n (sym (eqb-true x.space m here) ∙ eqb-true x.space n also)) ∙ apart))
     by_space true false here also rest = rw here (ap (λ ys. as_drawn x ∷ ys) rest)
     by_space false d other also rest = by_test (option_map_or (is_clear news) (then_some d (as_drawn x)) true) other rest
 
@@ -314,12 +306,9 @@ view-other m n news old new apart marked =
     ap (drawn_all m) marked.is
     ∙ filter_map-append (drawn_as m) (filter (is_unmet n news) old) (map (trace_of n) marked.drawn)
     ∙ ap (λ ys. ys ++ drawn_all m (map (trace_of n) marked.drawn)) (view-all m n news old apart)
-    ∙ ap (λ ys. drawn_all m old ++ ys) (view-away m n marked.drawn (turned m n apart))
+    ∙ ap (λ ys. drawn_all m old ++ ys) (view-away m n marked.drawn (eqb-turned m n apart))
     ∙ nothing_more (drawn_all m old)
   where
-    turned : (a b : ℕ) → (a == b) ≡ false → (b == a) ≡ false
-    turned a b e = grind (arith, nat_tests, e)
-
     nothing_more : (ys : List PieceRecord) → ys ++ [] ≡ ys
     nothing_more [] = refl
     nothing_more (y ∷ ys) = ap (λ zs. y ∷ zs) (nothing_more ys)
@@ -365,18 +354,18 @@ marks-last place start (e ∷ es) c w = rw (turned place w) (by_held (stored_las
 -- touches that are behind are pieces that are so
 behind-view : (n start : ℕ) (xs : List Trace) → list_all (is_behind n start) xs ≡ true → list_all (λ (x : PieceRecord). nat_lt x.stamp start) (drawn_all n xs) ≡ true
 behind-view n start [] behind = refl
-behind-view n start (x ∷ xs) behind = let h = both (is_behind n start x) (list_all (is_behind n start) xs) behind in by_space (x.space == n) h.0 (behind-view n start xs h.1)
+behind-view n start (x ∷ xs) behind = let h = and_parts (is_behind n start x) (list_all (is_behind n start) xs) behind in by_space (x.space == n) h.0 (behind-view n start xs h.1)
   where
     by_space : (b : Bool) → (not b || nat_lt x.position start) ≡ true → list_all (λ (y : PieceRecord). nat_lt y.stamp start) (drawn_all n xs) ≡ true
         → list_all (λ (y : PieceRecord). nat_lt y.stamp start) (cons_option (then_some b (as_drawn x)) (drawn_all n xs)) ≡ true
-    by_space true own rest = and_true (nat_lt x.position start) (list_all (λ (y : PieceRecord). nat_lt y.stamp start) (drawn_all n xs)) own rest
+    by_space true own rest = and_from (nat_lt x.position start) (list_all (λ (y : PieceRecord). nat_lt y.stamp start) (drawn_all n xs)) own rest
     by_space false own rest = rest
 
 -- and so is what they hold
 behind-held : (start : ℕ) (xs : List PieceRecord) (w : ℕ) (c : Cell) → list_all (λ (x : PieceRecord). nat_lt x.stamp start) xs ≡ true → past (stored_at xs w c) ≤ start
 behind-held start [] w c behind = omega arith
 behind-held start (x ∷ xs) w c behind =
-    let h = both (nat_lt x.stamp start) (list_all (λ (y : PieceRecord). nat_lt y.stamp start) xs) behind in by_cover (covers_at x w c) (behind-held start xs w c h.1) (next x.stamp start h.0)
+    let h = and_parts (nat_lt x.stamp start) (list_all (λ (y : PieceRecord). nat_lt y.stamp start) xs) behind in by_cover (covers_at x w c) (behind-held start xs w c h.1) (next x.stamp start h.0)
   where
     next : (m n : ℕ) → nat_lt m n ≡ true → m + 1 ≤ n
     next m n e = grind (arith, nat_tests, e)

@@ -1,10 +1,12 @@
 -- The logs after entries are written: their records, what they touch, the entries themselves and their rows.
-use Rattle.std.proofs.Common.{◌≡◌, ◌≢◌, ℕ, ◌+◌, ◌≤◌, ◌==◌, nat_lt, nat_le, cond, true, false, List, ◌++◌, length, take, Option, Some, None, refl, sym, ap, subst, ◌∙◌, ◌⊎◌, inl, inr, ⊎_elim, arith}
-use Rattle.std.proofs.lemmas.Bool.{cases_eq, eq-eqb, ne_eqb}
+use Rattle.std.proofs.Common.{◌≡◌, ◌≢◌, ℕ, ◌+◌, ◌==◌, nat_lt, nat_le, cond, true, false, List, ◌++◌, length, take, Option, Some, None, refl, sym, ap, subst, ◌∙◌, ◌⊎◌, inl, inr, ⊎_elim, arith}
+use Rattle.std.proofs.lemmas.Bool.{cases_eq, eq-eqb, ne_eqb, leb-true}
 use Rattle.std.proofs.lemmas.List.{take-append-le}
 use Rattle.std.proofs.lemmas.List.Elements.{All-append}
+use Rattle.std.proofs.lemmas.Option.{same_Some, none-some}
 use Rattle.std.specs.List.{All, slice_get}
 use Rattle.std.specs.Option.{option_map, option_map_or, option_and_then}
+use Rattle.wm_base.proofs.Plain.{none_some}
 use Rattle.wm_graph.specs.Parts.{Parts, space_of}
 use Rattle.wm_spec.specs.Lists.{Entry}
 use Rattle.wm_spec.specs.declared.record.savepoint.Savepoint.{Savepoint as Record}
@@ -16,7 +18,7 @@ use Rattle.wm_state.specs.Standing.{EntriesStand, HasRow, HistsStand, IsReal, Ro
 use Rattle.wm_state.specs.Touching.{Touched}
 use Rattle.wm_state.specs.Writes.{WroteAll}
 use Rattle.wm_state.proofs.Logging.{HaveRows, log_of-found, log_of-same, rows-kept}
-use Rattle.wm_state.proofs.Named.{one_space, saved_there}
+use Rattle.wm_state.proofs.Named.{saved_there}
 use Rattle.wm_state.proofs.Ready.{KeepReady, KeepReady-same, KeepReady-stands, all_real-kept, tables_found}
 use Rattle.wm_state.proofs.SavedAs.{made_none, made_some}
 use Rattle.wm_state.proofs.Staying.{AreReal, AreReal-same, AreTold, EntriesStand-kept, TouchesStand-kept, WasTouched, entries_real, part-changed, turn_rows-kept, turns_in}
@@ -33,19 +35,13 @@ pub marked_by : (p : Parts) (s : Durable) (n making : ℕ) (o : Workspace) (k : 
     → Marked p n k a
 marked_by p s n making o k a st is made recorded = by_record (saved_as p n making) refl
   where
-    none_some : (x : Option Savepoint) → x ≡ None → x ≡ Some k → ⊥
-    none_some x none some = cc
-
-    some_same : (j l : Savepoint) → Some j ≡ Some l → j ≡ l
-    some_same j l e = cc
-
     by_record : (x : Option Record) → saved_as p n making ≡ x → Marked p n k a
-    by_record None none = absurd (none_some (savepoint_made making o.savepoints) (made_none p s n o st is making none) made)
+    by_record None none = absurd (none_some (savepoint_made making o.savepoints) k (made_none p s n o st is making none) made)
     by_record (Some x) found =
         let y = made_some p s n o st is making x found in
         let z = saved_there p st.rules n making x found in
-        let fields : saved_fields x ≡ fields_saved k = y.2.fields ∙ ap fields_saved (some_same y.0 k (sym y.1 ∙ made)) in
-        let space : z.space ≡ a = one_space z.space a (sym z.found ∙ recorded) in
+        let fields : saved_fields x ≡ fields_saved k = y.2.fields ∙ ap fields_saved (same_Some y.0 k (sym y.1 ∙ made)) in
+        let space : z.space ≡ a = same_Some z.space a (sym z.found ∙ recorded) in
         record {
           place = ap (λ (f : SavepointFields). nat_lt f.place a.next_place) (sym fields) ∙ ap (λ (b : Space). nat_lt x.place b.next_place) (sym space) ∙ z.place;
           log = ap (λ (f : SavepointFields). nat_le f.log_length a.log_length) (sym fields) ∙ ap (λ (b : Space). nat_le x.log_length b.log_length) (sym space) ∙ z.log;
@@ -57,10 +53,7 @@ module _ (p q : Parts) (s t : Durable) (n : ℕ) (es : List Entry) (w : WroteAll
 
   -- the record of the workspace has its fields
   fields_here : (o : Workspace) → workspace_of s.spaces n ≡ Some o → fields_of w.old ≡ fields_in o
-  fields_here o is = some_same (fields_of w.old) (fields_in o) (sym (ap (option_map fields_of) w.old_is) ∙ st.spaces.same n ∙ ap (option_map fields_in) is)
-    where
-      some_same : (f g : SpaceFields) → Some f ≡ Some g → f ≡ g
-      some_same f g e = cc
+  fields_here o is = same_Some (fields_of w.old) (fields_in o) (sym (ap (option_map fields_of) w.old_is) ∙ st.spaces.same n ∙ ap (option_map fields_in) is)
 
   ready : KeepReady s.tables t.tables
   ready = KeepReady-same s.tables t.tables tables
@@ -77,7 +70,7 @@ module _ (p q : Parts) (s t : Durable) (n : ℕ) (es : List Entry) (w : WroteAll
     kept = λ making k made.
         let m = marked_by p s n making o k w.old st is made w.old_is in
         subst (λ xs. TouchesTell q.touches n k.place xs)
-        (sym (take-append-le k.log_length o.lists.log es (not_more k.log_length (length o.lists.log) (ap (nat_le k.log_length) (sym (ap (λ (f : SpaceFields). f.log_length) fields)) ∙ m.log))))
+        (sym (take-append-le k.log_length o.lists.log es (leb-true k.log_length (length o.lists.log) (ap (nat_le k.log_length) (sym (ap (λ (f : SpaceFields). f.log_length) fields)) ∙ m.log))))
         (tells_kept n w.place (length o.lists.log) k.place es (take k.log_length o.lists.log) p.touches q.touches touched (behind k.place w.old.next_place m.place w.last) (st.touches.kept n making o k is made));
   }
     where
@@ -92,9 +85,6 @@ module _ (p q : Parts) (s t : Durable) (n : ℕ) (es : List Entry) (w : WroteAll
 
       behind : (place next : ℕ) → nat_lt place next ≡ true → next ≡ w.place + 1 → nat_lt w.place place ≡ false
       behind place next lt same = grind (arith, lt, same)
-
-      not_more : (i j : ℕ) → nat_le i j ≡ true → i ≤ j
-      not_more i j e = grind (arith, e)
 
   pub TouchesStand-wrote : TouchesStand q t
   TouchesStand-wrote = TouchesStand-kept p q s t (λ m new is. by_how m new (before m new is)) st.touches
@@ -146,11 +136,8 @@ module _ (p q : Parts) (s t : Durable) (n : ℕ) (es : List Entry) (w : WroteAll
   longer : Longer
   longer = by_space (workspace_of s.spaces n) refl (sym (ap (option_map fields_of) w.old_is) ∙ st.spaces.same n)
     where
-      none_some : (f : SpaceFields) → (let nothing : Option SpaceFields = None in nothing) ≡ Some f → ⊥
-      none_some f e = cc
-
       by_space : (o : Option Workspace) → workspace_of s.spaces n ≡ o → Some (fields_of w.old) ≡ option_map fields_in o → Longer
-      by_space None found e = absurd (none_some (fields_of w.old) (sym e))
+      by_space None found e = absurd (none-some (fields_of w.old) (sym e))
       by_space (Some v) found e = record {
         many = ap (λ (f : SpaceFields). f.log_length) (fields_here v found) ∙ ap length (sym (log_of-found s.spaces n v found));
         here =

@@ -21,7 +21,7 @@ use Rattle.wm_state.proofs.Naming.{Carries, Covers-as, Framed, IsKeptOwn, IsMark
 use Rattle.wm_written.proofs.Nearest.{seen-here, own-here}
 use Rattle.wm_written.proofs.Wrote.{Had, Was, above_away, appended_all, ends_away, had, laid-away, laid-here, newest_away, sees_away, told-with_all, versions_wrote, was}
 
-map-or : (t o : Option Told) → option_or (option_map held_of t) (option_map held_of o) ≡ option_map held_of (option_or t o)
+pub map-or : (t o : Option Told) → option_or (option_map held_of t) (option_map held_of o) ≡ option_map held_of (option_or t o)
 map-or None o = refl
 map-or (Some t) o = refl
 

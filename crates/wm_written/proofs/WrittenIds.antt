@@ -1,6 +1,8 @@
 -- The ids of the batches that write entries.
 use Rattle.std.proofs.Common.{◌≡◌, ℕ, suc, ◌+◌, ◌==◌, nat_lt, true, false, List, [], ◌∷◌, ◌++◌, map, append_assoc, append-nil, sym, ap, ◌∙◌, length, arith}
+use Rattle.std.proofs.lemmas.Bool.{and_from}
 use Rattle.std.specs.List.{list_any}
+use Rattle.wm_base.proofs.Plain.{nat_lt-apart, nat_lt-next}
 use Rattle.wm_spec.specs.Records.{ids_differ, AreChanges}
 use Rattle.wm_spec.specs.declared.record.Record.{Record}
 use Rattle.wm_spec.specs.declared.record.batch.Change.{Change}
@@ -13,7 +15,7 @@ use Rattle.wm_spec.specs.declared.record.trace.Trace.{Trace}
 use Rattle.wm_spec.specs.declared.record.version.Version.{Version}
 use Rattle.wm_state.specs.Batches.{put}
 use Rattle.wm_state.specs.Writes.{put_all, write_batch, write_new_batch}
-use Rattle.wm_state.proofs.Tests.{and_true, all_if, none_if}
+use Rattle.wm_state.proofs.Tests.{all_if, none_if}
 use Rattle.wm_written.proofs.Behind.{new_records}
 use Rattle.wm_written.proofs.Ids.{are_under, ids_differ-push, are_under-push, ids_of-dropped}
 
@@ -53,16 +55,10 @@ unfolding ids_differ
 changes-write_new counters_id new space_id a count ids id v rows pieces touches hists differ under =
     ap (λ xs. ids_differ (id ∷ counters_id ∷ space_id ∷ xs)) (ids_of-dropped ids _)
     ∙ ids-put (id + 1) (new_records rows pieces touches hists) (id ∷ counters_id ∷ space_id ∷ ids) (rw (none_at id (counters_id ∷ space_id ∷ ids) under) differ)
-    (and_true (nat_lt id (id + 1)) (are_under (id + 1) (counters_id ∷ space_id ∷ ids)) (lt_self id) (all_if (λ k. nat_lt k id) (λ k. nat_lt k (id + 1)) (lt_next id) (counters_id ∷ space_id ∷ ids) under))
+    (and_from (nat_lt id (id + 1)) (are_under (id + 1) (counters_id ∷ space_id ∷ ids)) (nat_lt-next id) (all_if (λ k. nat_lt k id) (λ k. nat_lt k (id + 1)) (lt_next id) (counters_id ∷ space_id ∷ ids) under))
   where
-    below : (m n : ℕ) → nat_lt m n ≡ true → (m == n) ≡ false
-    below m n lt = grind (arith, lt)
-
     none_at : (n : ℕ) (ks : List ℕ) → are_under n ks ≡ true → list_any (λ other. other == n) ks ≡ false
-    none_at n ks all = none_if (λ k. nat_lt k n) (λ other. other == n) (λ k lt. below k n lt) ks all
-
-    lt_self : (k : ℕ) → nat_lt k (k + 1) ≡ true
-    lt_self k = grind arith
+    none_at n ks all = none_if (λ k. nat_lt k n) (λ other. other == n) (λ k lt. nat_lt-apart k n lt) ks all
 
     lt_next : (n k : ℕ) → nat_lt k n ≡ true → nat_lt k (n + 1) ≡ true
     lt_next n k lt = grind (arith, lt)

@@ -1,5 +1,6 @@
 -- What the batches that write entries put can be kept: no value in it is an empty text.
 use Rattle.std.proofs.Common.{◌≡◌, ℕ, ◌+◌, Bool, true, false, cond, List, [], ◌∷◌, ◌++◌, map, Option, Some, None, refl, sym, ap, ◌∙◌}
+use Rattle.std.proofs.lemmas.Bool.{and_from, and_parts}
 use Rattle.std.specs.List.{list_all}
 use Rattle.std.specs.Option.{option_map_or}
 use Rattle.wm_base.specs.declared.row.Row.{Row}
@@ -21,7 +22,6 @@ use Rattle.wm_state.specs.Standing.{has_history}
 use Rattle.wm_state.specs.Touching.{drawn_all, marks_of, trace_of}
 use Rattle.wm_state.specs.Writes.{Redrawn, entries_batch, put_all}
 use Rattle.wm_state.proofs.Appending.{all_append}
-use Rattle.wm_state.proofs.Tests.{both, and_true}
 use Rattle.wm_written.proofs.Behind.{new_records}
 use Rattle.wm_written.proofs.Touched.{met-same, touched-all}
 
@@ -30,7 +30,7 @@ use Rattle.wm_written.proofs.Touched.{met-same, touched-all}
 -- what is put
 pub kept_put : (id : ℕ) (rs : List Record) → list_all is_kept rs ≡ true → list_all is_kept_change (put_all id rs) ≡ true
 kept_put id [] all = refl
-kept_put id (r ∷ rs) all = let h = both (is_kept r) (list_all is_kept rs) all in and_true (is_kept r) _ h.0 (kept_put (id + 1) rs h.1)
+kept_put id (r ∷ rs) all = let h = and_parts (is_kept r) (list_all is_kept rs) all in and_from (is_kept r) _ h.0 (kept_put (id + 1) rs h.1)
 
 -- what goes, before other changes
 pub kept_dropped : (ids : List ℕ) (cs : List Change) → list_all is_kept_change cs ≡ true → list_all is_kept_change (map drop_one ids ++ cs) ≡ true
@@ -42,22 +42,22 @@ kept_dropped (id ∷ ids) cs rest = kept_dropped ids cs rest
 -- the rows of entries
 kept_rows : (es : List Entry) → list_all can_keep_entry es ≡ true → list_all is_kept (map records.Row (rows_in es)) ≡ true
 kept_rows [] all = refl
-kept_rows (e ∷ es) all = let h = both (can_keep_entry e) (list_all can_keep_entry es) all in by_row e.row refl (both (list_all can_keep e.key) _ h.0).1 (kept_rows es h.1)
+kept_rows (e ∷ es) all = let h = and_parts (can_keep_entry e) (list_all can_keep_entry es) all in by_row e.row refl (and_parts (list_all can_keep e.key) _ h.0).1 (kept_rows es h.1)
   where
     by_row : (o : Option Row) → e.row ≡ o → option_map_or (λ (row : Row). list_all can_keep row.values) e.row true ≡ true → list_all is_kept (map records.Row (rows_in es)) ≡ true
         → list_all is_kept (map records.Row (rows_in (e ∷ es))) ≡ true
     by_row None is one rest = rw is rest
-    by_row (Some row) is one rest = rw is (and_true (list_all can_keep row.values) _ (sym (ap (λ o. option_map_or (λ (r : Row). list_all can_keep r.values) o true) is) ∙ one) rest)
+    by_row (Some row) is one rest = rw is (and_from (list_all can_keep row.values) _ (sym (ap (λ o. option_map_or (λ (r : Row). list_all can_keep r.values) o true) is) ∙ one) rest)
 
 -- the entries of a log
 pub kept_hists : (tables : List Table) (n position : ℕ) (es : List Entry) → list_all can_keep_entry es ≡ true → list_all is_kept (map records.Hist (hists_kept tables n position es)) ≡ true
 kept_hists tables n position [] all = refl
 kept_hists tables n position (e ∷ es) all =
-    let h = both (can_keep_entry e) (list_all can_keep_entry es) all in by_test (has_history tables e.table) (both (list_all can_keep e.key) _ h.0).0 (kept_hists tables n (position + 1) es h.1)
+    let h = and_parts (can_keep_entry e) (list_all can_keep_entry es) all in by_test (has_history tables e.table) (and_parts (list_all can_keep e.key) _ h.0).0 (kept_hists tables n (position + 1) es h.1)
   where
     by_test : (b : Bool) → list_all can_keep e.key ≡ true → list_all is_kept (map records.Hist (hists_kept tables n (position + 1) es)) ≡ true
         → list_all is_kept (map records.Hist (cond b (hist_of n position e ∷ hists_kept tables n (position + 1) es) (hists_kept tables n (position + 1) es))) ≡ true
-    by_test true key rest = and_true (list_all can_keep e.key) _ key rest
+    by_test true key rest = and_from (list_all can_keep e.key) _ key rest
     by_test false key rest = rest
 
 -- the key of a piece can be kept
@@ -67,12 +67,12 @@ keeps_key x = list_all can_keep x.cells.key
 -- pieces of such keys
 pub kept_pieces : (xs : List PieceRecord) → list_all keeps_key xs ≡ true → list_all is_kept (map records.Piece xs) ≡ true
 kept_pieces [] all = refl
-kept_pieces (x ∷ xs) all = let h = both (keeps_key x) (list_all keeps_key xs) all in and_true (keeps_key x) _ h.0 (kept_pieces xs h.1)
+kept_pieces (x ∷ xs) all = let h = and_parts (keeps_key x) (list_all keeps_key xs) all in and_from (keeps_key x) _ h.0 (kept_pieces xs h.1)
 
 -- and what is touched there
 pub kept_touches : (n : ℕ) (xs : List PieceRecord) → list_all keeps_key xs ≡ true → list_all is_kept (map records.Touch (map (trace_of n) xs)) ≡ true
 kept_touches n [] all = refl
-kept_touches n (x ∷ xs) all = let h = both (keeps_key x) (list_all keeps_key xs) all in and_true (keeps_key x) _ h.0 (kept_touches n xs h.1)
+kept_touches n (x ∷ xs) all = let h = and_parts (keeps_key x) (list_all keeps_key xs) all in and_from (keeps_key x) _ h.0 (kept_touches n xs h.1)
 
 -- ---- pieces that are drawn
 
@@ -80,13 +80,13 @@ kept_touches n (x ∷ xs) all = let h = both (keeps_key x) (list_all keeps_key x
 pub news_kept : (version : ℕ) (es : List Entry) → list_all can_keep_entry es ≡ true → list_all keeps_key (pieces_of version es) ≡ true
 news_kept version [] all = refl
 news_kept version (e ∷ es) all =
-    let h = both (can_keep_entry e) (list_all can_keep_entry es) all in and_true (list_all can_keep e.key) _ (both (list_all can_keep e.key) _ h.0).0 (news_kept version es h.1)
+    let h = and_parts (can_keep_entry e) (list_all can_keep_entry es) all in and_from (list_all can_keep e.key) _ (and_parts (list_all can_keep e.key) _ h.0).0 (news_kept version es h.1)
 
 -- what entries touch
 pub marks_kept : (place start : ℕ) (es : List Entry) → list_all can_keep_entry es ≡ true → list_all keeps_key (marks_of place start es) ≡ true
 marks_kept place start [] all = refl
 marks_kept place start (e ∷ es) all =
-    let h = both (can_keep_entry e) (list_all can_keep_entry es) all in and_true (list_all can_keep e.key) _ (both (list_all can_keep e.key) _ h.0).0 (marks_kept place (start + 1) es h.1)
+    let h = and_parts (can_keep_entry e) (list_all can_keep_entry es) all in and_from (list_all can_keep e.key) _ (and_parts (list_all can_keep e.key) _ h.0).0 (marks_kept place (start + 1) es h.1)
 
 -- those that new pieces meet are of their keys, and so are all that are drawn for them
 pub drawn_kept : (news old drawn : List PieceRecord) → list_all keeps_key news ≡ true → AreDrawn news (touched news old) drawn → list_all keeps_key drawn ≡ true

@@ -1,6 +1,7 @@
 -- A workspace with more entries, its record and its versions, told by those of before.
 use Rattle.std.proofs.Common.{◌≡◌, ◌≢◌, ℕ, cond, List, ◌++◌, append_assoc, Option, Some, None, is_some, refl, sym, ap, ◌∙◌, ◌==◌, ◌⊎◌, inl, inr, true, false, ◌+◌, length, length-append}
-use Rattle.std.proofs.lemmas.Bool.{cases_eq, eq-eqb, ne_eqb}
+use Rattle.std.proofs.lemmas.Bool.{cases_eq, eq-eqb, ne_eqb, true≢false}
+use Rattle.std.proofs.lemmas.Option.{same_Some, none-some}
 use Rattle.std.specs.Option.{option_or, option_map}
 use Rattle.wm_graph.specs.Parts.{Parts, space_of}
 use Rattle.wm_spec.specs.Lists.{Entry, Cell, told}
@@ -15,7 +16,6 @@ use Rattle.wm_state.proofs.Changing.{workspace_of-changed}
 use Rattle.wm_state.proofs.Climbing.{recorded_of}
 use Rattle.wm_state.proofs.Ending.{all_end, all_end-drawn}
 use Rattle.wm_state.proofs.Frames.{savepoints_of-found, savepoints_of-none}
-use Rattle.wm_state.proofs.Tests.{bool_apart}
 use Rattle.wm_written.proofs.Nearest.{SameAway, seen-away, own-away}
 
 -- ---- a workspace with more entries
@@ -36,27 +36,18 @@ pub record Was (n : ℕ) (es : List Entry) (ws : List Workspace) (m : ℕ) (new 
 pub was : (n : ℕ) (es : List Entry) (ws : List Workspace) (m : ℕ) (new : Workspace) → workspace_of (appended_all n es ws) m ≡ Some new → Was n es ws m new
 was n es ws m new is = by_number (cases_eq m n) (workspace_of ws m) refl
   where
-    some_same : (x y : Workspace) → Some x ≡ Some y → x ≡ y
-    some_same x y h = cc
-
     by_number : (m ≡ n) ⊎ (m ≢ n) → (o : Option Workspace) → workspace_of ws m ≡ o → Was n es ws m new
-    by_number (inl here) None found = absurd (by_none (rw (eq-eqb _ _ here, found) at (sym (appended-at n es ws m) ∙ is)))
-      where
-        by_none : (let nothing : Option Workspace = None in nothing) ≡ Some new → ⊥
-        by_none h = cc
+    by_number (inl here) None found = absurd (none-some new (rw (eq-eqb _ _ here, found) at (sym (appended-at n es ws m) ∙ is)))
     by_number (inl here) (Some w) found = record {
       old = w;
       is = found;
-      how = inl (here, sym (some_same _ _ (rw (eq-eqb _ _ here, found) at (sym (appended-at n es ws m) ∙ is))));
+      how = inl (here, sym (same_Some _ _ (rw (eq-eqb _ _ here, found) at (sym (appended-at n es ws m) ∙ is))));
     }
-    by_number (inr other) None found = absurd (by_none (rw (ne_eqb _ _ other, found) at (sym (appended-at n es ws m) ∙ is)))
-      where
-        by_none : (let nothing : Option Workspace = None in nothing) ≡ Some new → ⊥
-        by_none h = cc
+    by_number (inr other) None found = absurd (none-some new (rw (ne_eqb _ _ other, found) at (sym (appended-at n es ws m) ∙ is)))
     by_number (inr other) (Some w) found = record {
       old = w;
       is = found;
-      how = inr (other, sym (some_same _ _ (rw (ne_eqb _ _ other, found) at (sym (appended-at n es ws m) ∙ is))));
+      how = inr (other, sym (same_Some _ _ (rw (ne_eqb _ _ other, found) at (sym (appended-at n es ws m) ∙ is))));
     }
 
 -- more entries in a workspace lie over its content
@@ -88,11 +79,8 @@ pub record Had (p : Parts) (n : ℕ) (es : List Entry) (m : ℕ) (new : Space) :
 pub had : (p q : Parts) (n : ℕ) (es : List Entry) → WroteAll p q n es → (m : ℕ) (new : Space) → space_of q.spaces m ≡ Some new → Had p n es m new
 had p q n es w m new is = by_number (cases_eq m n)
   where
-    some_same : (x y : Space) → Some x ≡ Some y → x ≡ y
-    some_same x y h = cc
-
     by_number : (m ≡ n) ⊎ (m ≢ n) → Had p n es m new
-    by_number (inl here) = record { old = w.old; is = ap (space_of p.spaces) here ∙ w.old_is; how = inl (here, some_same _ _ (sym is ∙ ap (space_of q.spaces) here ∙ w.here)) }
+    by_number (inl here) = record { old = w.old; is = ap (space_of p.spaces) here ∙ w.old_is; how = inl (here, same_Some _ _ (sym is ∙ ap (space_of q.spaces) here ∙ w.here)) }
     by_number (inr other) = record { old = new; is = sym (w.elsewhere m (ne_eqb _ _ other)) ∙ is; how = inr (other, refl) }
 
 -- the fields with a log that is longer by so many
@@ -148,7 +136,7 @@ module _ (p q : Parts) (n : ℕ) (es : List Entry) (w : WroteAll p q n es) where
   ends_away base v other fs e =
       ap (λ (vs : List Version). all_end (is_above (newest_first vs) base v) fs q.pieces) versions_wrote
       ∙ all_end-drawn (is_above (newest_first p.versions) base v) (latest p n) es fs fs p.pieces q.pieces (λ cells moment h. h)
-      (λ on. absurd (bool_apart (sym on ∙ above-leaf (latest p n) base (newest_first p.versions) w.leaf v other))) e w.ends
+      (λ on. absurd (true≢false (sym on ∙ above-leaf (latest p n) base (newest_first p.versions) w.leaf v other))) e w.ends
 
   -- the newest version of another workspace is not written
   pub newest_away : (s : Durable) → SpacesStand p s → (m : ℕ) (old : Workspace) → workspace_of s.spaces m ≡ Some old → m ≢ n → (latest p m == latest p n) ≡ false

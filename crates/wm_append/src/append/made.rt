@@ -85,8 +85,8 @@ pub fn push_traced(
 ) -> Result<(), Memory>
     ensures { OnOk result (news.new.items ≡ news.old.items ++ map records.Touch (map (trace_at space place) drawn.items) ++ hists.items) }
 {
-    let said = push_touches(news, space, place, drawn);
-    match said {
+    let pushed = push_touches(news, space, place, drawn);
+    match pushed {
         Ok(()) => push_all(news, hists),
         Err(fault) => {
             drop(hists);
@@ -130,8 +130,8 @@ pub fn draw_entries(
     let touches = redraw(alloc, image, layer, u64::from(place), marks)?;
     push_traced(&mut news, space.number, place, touches.drawn, hists)?;
     let mut dropped = pieces.dropped;
-    let said = dropped.extend_from_slice(touches.dropped.as_slice());
+    let extended = dropped.extend_from_slice(touches.dropped.as_slice());
     drop(touches.dropped);
-    said?;
+    extended?;
     Ok(Made { dropped, news })
 }

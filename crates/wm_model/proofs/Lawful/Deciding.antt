@@ -1,5 +1,7 @@
 -- What decisions copy is sound where the lists are of which it is copied, and so is what they come to.
 use Rattle.std.proofs.Common.{◌≡◌, ℕ, zero, suc, ◌+◌, ◌==◌, Bool, true, false, if◌then◌else◌, List, [], ◌∷◌, length, map, slice_get, Option, Some, None, is_some, option_map, refl, sym, ap, ◌∙◌, subst, arith}
+use Rattle.std.proofs.lemmas.Bool.{and_parts}
+use Rattle.std.proofs.lemmas.Option.{same_Some}
 use Rattle.std.specs.Bool.{then_some}
 use Rattle.std.specs.List.{cons_option, filter_map, flat_map}
 use Rattle.std.specs.Option.{option_and_then, option_or}
@@ -17,11 +19,9 @@ use Rattle.wm_net.specs.Places.{last_position}
 use Rattle.wm_spec.specs.Lists.{Cell, Entry, Told, covers, is_of, told}
 use Rattle.wm_spec.specs.Stretches.{cut_in, cuts}
 use Rattle.wm_state.proofs.Laying.{key_same}
-use Rattle.wm_state.proofs.Tests.{both}
 use Rattle.wm_state.specs.State.{Decision}
 use Rattle.wm_model.specs.Lawful.{Each, IsSound, staged_of}
 use Rattle.wm_model.proofs.Lawful.Entries.{each_append, each_split}
-use Rattle.wm_model.proofs.Lawful.Lists.{one_some}
 use Rattle.wm_model.proofs.Lawful.Nets.{Tells, Valued, again_sound, each_listing, each_mapped, told_tells, valued_stretches}
 
 -- ---- what a decision copies
@@ -37,12 +37,12 @@ on_valued tells next es g s each =
 
 copied_valued : (tells : ℕ → Told) (next : ℕ) (keep : Keep) (s : Sides) (x : Group × Stretch Stamps) (ss : List (Stretch Told)) → Each (IsSound tells next) s.base → Each (IsSound tells next) s.parent → copied_on keep s x ≡ Some ss
     → Valued (Tells tells next x.0.key) ss
-copied_valued tells next Parent s x ss base parent is = subst (Valued (Tells tells next x.0.key)) (one_some (told_on s.parent x.0 x.1) ss is) (on_valued tells next s.parent x.0 x.1 parent)
-copied_valued tells next Child s x ss base parent is = subst (Valued (Tells tells next x.0.key)) (one_some [] ss is) tt
+copied_valued tells next Parent s x ss base parent is = subst (Valued (Tells tells next x.0.key)) (same_Some (told_on s.parent x.0 x.1) ss is) (on_valued tells next s.parent x.0 x.1 parent)
+copied_valued tells next Child s x ss base parent is = subst (Valued (Tells tells next x.0.key)) (same_Some [] ss is) tt
 copied_valued tells next Base s x ss base parent is = by_base (is_some x.1.value.base) is
   where
     by_base : (b : Bool) → (if b then Some (told_on s.base x.0 x.1) else None) ≡ Some ss → Valued (Tells tells next x.0.key) ss
-    by_base true is = subst (Valued (Tells tells next x.0.key)) (one_some (told_on s.base x.0 x.1) ss is) (on_valued tells next s.base x.0 x.1 base)
+    by_base true is = subst (Valued (Tells tells next x.0.key)) (same_Some (told_on s.base x.0 x.1) ss is) (on_valued tells next s.base x.0 x.1 base)
     by_base false is = absurd (cc)
 
 decided_sound : (tells : ℕ → Told) (next : ℕ) (keep : Keep) (s : Sides) (xs : List (Group × Stretch Stamps)) → Each (IsSound tells next) s.base → Each (IsSound tells next) s.parent
@@ -72,14 +72,14 @@ last_covers (x ∷ xs) c place d last is = by_last (last_position (map cells_dec
     by_last : (o : Option ℕ) (b : Bool) → last_position (map cells_decided xs) c ≡ o → covers (cells_decided x) c ≡ b → option_or (option_map (λ (n : ℕ). n + 1) o) (then_some b 0) ≡ Some place
         → ((n : ℕ) → last_position (map cells_decided xs) c ≡ Some n → slice_get xs n ≡ Some d → covers (cells_decided d) c ≡ true) → covers (cells_decided d) c ≡ true
     by_last (Some n) b later here e rest =
-        let step : suc n ≡ n + 1 = omega arith in rest n later (ap (slice_get (x ∷ xs)) (step ∙ one_some (n + 1) place e) ∙ is)
+        let step : suc n ≡ n + 1 = omega arith in rest n later (ap (slice_get (x ∷ xs)) (step ∙ same_Some (n + 1) place e) ∙ is)
     by_last None true later here e rest =
-        ap (λ (y : Decision). covers (cells_decided y) c) (sym (one_some x d (ap (slice_get (x ∷ xs)) (one_some 0 place e) ∙ is))) ∙ here
+        ap (λ (y : Decision). covers (cells_decided y) c) (sym (same_Some x d (ap (slice_get (x ∷ xs)) (same_Some 0 place e) ∙ is))) ∙ here
     by_last None false later here e rest = absurd (cc)
 
 staged_at : (P : Entry → Type 0) (ds : List Decision) (place : ℕ) (d : Decision) → slice_get ds place ≡ Some d → Each P (flat_map staged_of ds) → Each P (staged_of d)
 staged_at P [] place d is each = absurd (cc)
-staged_at P (x ∷ xs) zero d is each = subst (λ (y : Decision). Each P (staged_of y)) (one_some x d is) (each_split P (staged_of x) (flat_map staged_of xs) each).0
+staged_at P (x ∷ xs) zero d is each = subst (λ (y : Decision). Each P (staged_of y)) (same_Some x d is) (each_split P (staged_of x) (flat_map staged_of xs) each).0
 staged_at P (x ∷ xs) (suc n) d is each = staged_at P xs n d is (each_split P (staged_of x) (flat_map staged_of xs) each).1
 
 -- what sound copies of a decision say at a moment
@@ -89,7 +89,7 @@ value_tells tells next d (s ∷ ss) t x each is = by_value (value_at ss t) (with
   where
     by_value : (o : Option Told) (b : Bool) → (o ≡ Some x → Tells tells next d.key x) → option_or o (then_some b s.value) ≡ Some x → Tells tells next d.key x
     by_value (Some y) b rest is = rest is
-    by_value None true rest is = subst (Tells tells next d.key) (one_some s.value x is) (each.0.given, each.0.told, each.0.filled, each.0.keyed)
+    by_value None true rest is = subst (Tells tells next d.key) (same_Some s.value x is) (each.0.given, each.0.told, each.0.filled, each.0.keyed)
     by_value None false rest is = absurd (cc)
 
 copied_tells : (tells : ℕ → Told) (next : ℕ) (ds : List Decision) (c : Cell) (x : Copy) → Each (IsSound tells next) (flat_map staged_of ds) → copied_at ds c ≡ Some x → Tells tells next c.key x.told
@@ -105,8 +105,8 @@ copied_tells tells next ds c x each is = by_place (last_position (map cells_deci
         → option_map (λ (t : Told). let made : Copy = record { place = place; told = t } in made) o ≡ Some x → Tells tells next c.key x.told
     by_value place d here sound None value is = absurd (cc)
     by_value place d here sound (Some t) value is =
-        let key : d.key ≡ c.key = key_same d.key c.key (both (d.table == c.table) _ (both (is_of c.table c.key (cells_decided d)) _ here).0).1 in
-        subst (λ (y : Copy). Tells tells next c.key y.told) (one_some (record { place = place; told = t }) x is) (subst (λ k. Tells tells next k t) key (value_tells tells next d d.copied c.time t sound value))
+        let key : d.key ≡ c.key = key_same d.key c.key (and_parts (d.table == c.table) _ (and_parts (is_of c.table c.key (cells_decided d)) _ here).0).1 in
+        subst (λ (y : Copy). Tells tells next c.key y.told) (same_Some (record { place = place; told = t }) x is) (subst (λ k. Tells tells next k t) key (value_tells tells next d d.copied c.time t sound value))
 
     by_decision : (place : ℕ) → last_position (map cells_decided ds) c ≡ Some place → (o : Option Decision) → slice_get ds place ≡ o → copy (choice place o) ≡ Some x → Tells tells next c.key x.told
     by_decision place last None found is = absurd (cc)

@@ -1,13 +1,13 @@
 -- What is so where nothing was found: neither the first of the workspaces that passes a test, nor the first of the faults of a line.
 use Rattle.std.proofs.Common.{◌≡◌, ◌≢◌, ℕ, zero, suc, ◌<◌, Bool, true, false, List, [], ◌∷◌, Option, Some, None, is_some, refl, sym, ap, ◌∙◌, arith, ◌⊎◌, inl, inr}
 use Rattle.std.proofs.lemmas.Bool.{cases_eq}
+use Rattle.std.proofs.lemmas.Option.{same_Some}
 use Rattle.std.specs.Bool.{then_some}
 use Rattle.std.specs.List.{list_any}
 use Rattle.std.specs.Option.{option_and_then, option_map_or, option_or}
 use Rattle.wm_base.proofs.Plain.{none_mapped, option_or_parts}
 use Rattle.wm_base.specs.declared.refusal.Refusal.{Refusal}
 use Rattle.wm_model.specs.Step.{Answer, State, first_fault, first_name, first_session, refusal_of, refused_for, refused_if}
-use Rattle.wm_model.proofs.Lawful.Lists.{one_some}
 use Rattle.wm_model.proofs.Lawful.Spaces.{number_is, under}
 use Rattle.wm_state.specs.Firsts.{first_space, least_below}
 use Rattle.wm_state.specs.State.{Session, Workspace, next_space, workspace_of}
@@ -16,7 +16,7 @@ use Rattle.wm_state.proofs.Mapped.{none-found}
 -- ---- the least number
 
 some_passes : (b : Bool) (n m : ℕ) → then_some b n ≡ Some m → (b ≡ true) × (n ≡ m)
-some_passes true n m e = (refl, one_some n m e)
+some_passes true n m e = (refl, same_Some n m e)
 some_passes false n m e = absurd (cc)
 
 none_fails : (b : Bool) (n : ℕ) → then_some b n ≡ None → b ≡ false
@@ -24,7 +24,7 @@ none_fails true n e = absurd (cc)
 none_fails false n e = refl
 
 -- it passes
-least_passes : (n : ℕ) (test : ℕ → Bool) (m : ℕ) → least_below n test ≡ Some m → test m ≡ true
+pub least_passes : (n : ℕ) (test : ℕ → Bool) (m : ℕ) → least_below n test ≡ Some m → test m ≡ true
 unfolding least_below
 least_passes zero test m found = absurd (cc)
 least_passes (suc n) test m found = by_least (least_below n test) refl found (least_passes n test m)

@@ -1,18 +1,16 @@
 -- What is found in a list with one more.
 use Rattle.std.proofs.Common.{◌≡◌, ℕ, zero, suc, Bool, true, false, ◌&&◌, cond, if◌then◌else◌, List, [], ◌∷◌, ◌++◌, slice_get, Some, None, refl, sym, ap, ◌∙◌, ◌⊎◌, inl, inr}
+use Rattle.std.proofs.lemmas.Option.{same_Some}
+use Rattle.std.proofs.lemmas.Bool.{true≢false}
 use Rattle.std.specs.List.{find}
 use Rattle.wm_state.specs.State.{Turn}
-use Rattle.wm_state.proofs.Tests.{bool_apart}
-
-pub one_some : {A : Type 0} (x y : A) → Some x ≡ Some y → x ≡ y
-one_some x y h = cc
 
 -- what is found was found before, or is the one that is new
 pub found_either : {A : Type 0} (P : A → Bool) (xs : List A) (k x : A) → find P (xs ++ k ∷ []) ≡ Some x → (find P xs ≡ Some x) ⊎ (x ≡ k)
 found_either P [] k x found = inr (by_test (P k) found)
   where
     by_test : (b : Bool) → cond b (Some k) None ≡ Some x → x ≡ k
-    by_test true h = sym (one_some k x h)
+    by_test true h = sym (same_Some k x h)
     by_test false h = absurd (cc)
 found_either P (y ∷ ys) k x found = by_test (P y) found (found_either P ys k x)
   where
@@ -28,10 +26,10 @@ found_both {A = A} Q P (y ∷ ys) x found passes = by_tests (Q y) (P y) refl fou
     by_tests : (b c : Bool) → Q y ≡ b → (if c then Some y else find P ys) ≡ Some x → (find P ys ≡ Some x → Q x ≡ true → find (λ z. Q z && P z) ys ≡ Some x) → (if b && c then Some y else find (λ z. Q z && P z) ys) ≡ Some x
     by_tests true true is h rest = h
     by_tests true false is h rest = rest h passes
-    by_tests false true is h rest = absurd (bool_apart (sym passes ∙ ap Q (sym (one_some y x h)) ∙ is))
+    by_tests false true is h rest = absurd (true≢false (sym passes ∙ ap Q (sym (same_Some y x h)) ∙ is))
     by_tests false false is h rest = rest h passes
 
 -- the one turn of a workspace that is born
 pub one_turn : (t u : Turn) (number : ℕ) → slice_get (t ∷ []) number ≡ Some u → u ≡ t
-one_turn t u zero found = sym (one_some t u found)
+one_turn t u zero found = sym (same_Some t u found)
 one_turn t u (suc n) found = absurd (cc)

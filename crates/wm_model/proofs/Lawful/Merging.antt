@@ -1,6 +1,7 @@
 -- A refresh and a merge leave a lawful state.
 use Rattle.std.proofs.Common.{◌≡◌, ◌≢◌, ℕ, ◌+◌, ◌<◌, ◌==◌, Bool, true, false, not, ◌&&◌, ◌||◌, cond, if◌then◌else◌, List, [], ◌++◌, length, unwrap_or, Option, Some, None, option_map, refl, sym, ap, ◌∙◌, arith, ◌⊎◌, inl, inr}
-use Rattle.std.proofs.lemmas.Bool.{cases_eq, eq-eqb, ne_eqb}
+use Rattle.std.proofs.lemmas.Bool.{cases_eq, eq-eqb, ne_eqb, true≢false}
+use Rattle.std.proofs.lemmas.Option.{same_Some}
 use Rattle.std.specs.List.{list_any}
 use Rattle.wm_net.specs.Nets.{net}
 use Rattle.wm_net.proofs.Merging.{merge_law, refresh_law}
@@ -10,13 +11,11 @@ use Rattle.wm_spec.specs.Lists.{Alike, Entry, Told}
 use Rattle.wm_state.specs.Editing.{implicit_name, kept_in, saved, without}
 use Rattle.wm_state.specs.State.{Durable, Savepoint, Session, Stand, Latest, At, Workspace, content, fresh_live, next_making, with_entries, with_savepoint, with_space, workspace_of}
 use Rattle.wm_state.proofs.Changing.{differ-changed, workspace_of-changed}
-use Rattle.wm_state.proofs.Tests.{bool_apart}
 use Rattle.wm_model.specs.Lawful.{Each, IsAt, IsSound, LawfulSpaces, LawfulState, Seats}
 use Rattle.wm_model.specs.Step.{Answer, Asked, State, first_fault, gained_of, has_child, is_child, is_even, is_quiet, leaving_faults, longer_log, merge, merge_workspace, merged, merged_with, merging_faults, no_parent, parent_in, pending, refresh, refresh_workspace, refreshed, refreshing_faults, session_inside, stands_in, unless}
 use Rattle.wm_model.proofs.Lawful.Entries.{AllHold, all_swapped, holds_appended}
 use Rattle.wm_model.proofs.Lawful.Firsts.{no_faults, none_inside, none_named, none_refused}
 use Rattle.wm_model.proofs.Lawful.Leaves.{Leaves, leaves_durably, leaves_if, leaves_saved, leaves_unless, leaves_with_named, stays}
-use Rattle.wm_model.proofs.Lawful.Lists.{one_some}
 use Rattle.wm_model.proofs.Lawful.Nets.{each_drop, gained_sound, net_sound, sound_stamped}
 use Rattle.wm_model.proofs.Lawful.Rebasing.{base_alike, holds_rebased, over_parent, rebased_with, spaces_rebased}
 use Rattle.wm_model.proofs.Lawful.Saving.{newest, space_appended}
@@ -180,7 +179,7 @@ none_changed n act ws w number parent none m x found = by_test (m == n) (workspa
     by_test : (b : Bool) (o : Option Workspace) → workspace_of ws m ≡ o → cond b (option_map act o) o ≡ Some x → is_child w x ≡ false
     by_test true None is e = absurd (cc)
     by_test false None is e = absurd (cc)
-    by_test true (Some y) is e = rw (← (one_some (act y) x e), parent y, number y) (none m y is)
+    by_test true (Some y) is e = rw (← (same_Some (act y) x e), parent y, number y) (none m y is)
     by_test false (Some y) is e = none m x (is ∙ e)
 
 none_merged : (own es : List Entry) (p w : Workspace) (d : Durable) → NoChild d.spaces w → NoChild (merged own es p w d).spaces w
@@ -198,7 +197,7 @@ alone_with true s w none removes = let h = no_faults (leaving_faults true s w) n
   none = none_named (is_child w) s (none_refused (has_child w.name) (λ _. refl) _ h.1.0);
   away = none_inside (stands_in w) s.sessions (none_refused (session_inside w.name) (λ _. refl) _ h.0);
 }
-alone_with false s w none removes = absurd (bool_apart (sym removes))
+alone_with false s w none removes = absurd (true≢false (sym removes))
 
 -- the workspace goes, where that is asked for
 leaves_removed : (removes : Bool) (w : Workspace) (s : State) (answer : Answer) → LawfulState s → 0 < w.number → (removes ≡ true → Alone s w)

@@ -1,5 +1,7 @@
 -- Net lists and what is gained are sound where the lists are of which they are made.
 use Rattle.std.proofs.Common.{◌≡◌, ℕ, zero, suc, ◌<◌, ◌==◌, ◌&&◌, Bool, true, false, if◌then◌else◌, List, [], ◌∷◌, ◌++◌, drop, map, Option, Some, None, refl, sym, ap, ◌∙◌, subst}
+use Rattle.std.proofs.lemmas.Bool.{and_parts}
+use Rattle.std.proofs.lemmas.Option.{same_Some}
 use Rattle.std.specs.Bool.{then_some}
 use Rattle.std.specs.List.{list_all}
 use Rattle.std.specs.Option.{option_map_or, option_or}
@@ -7,14 +9,13 @@ use Rattle.wm_base.specs.declared.value.Value.{Value}
 use Rattle.wm_making.specs.Rows.{is_filled}
 use Rattle.wm_net.specs.Groups.{Group, cell, groups}
 use Rattle.wm_net.specs.Listed.{Stretch, joined, listed, listing, onto, stretches, stretches_of}
-use Rattle.wm_net.specs.Nets.{Stamped, gained, gained_at, net, one_stamp, outside, replayed}
+use Rattle.wm_net.specs.Nets.{Stamped, gained, gained_at, net, one_stamp, replayed}
+use Rattle.wm_net.proofs.Netting.{outside_given}
 use Rattle.wm_spec.specs.Lists.{Cell, Entry, Told, covers, is_of, told, told_of}
 use Rattle.wm_spec.specs.Stretches.{cuts}
 use Rattle.wm_state.proofs.Laying.{key_same}
-use Rattle.wm_state.proofs.Tests.{both}
 use Rattle.wm_model.specs.Lawful.{Each, IsSound, is_full_row}
 use Rattle.wm_model.proofs.Lawful.Entries.{each_append}
-use Rattle.wm_model.proofs.Lawful.Lists.{one_some}
 
 -- ---- what is listed
 
@@ -73,11 +74,11 @@ told_tells tells next [] c x each found = absurd (cc)
 told_tells tells next (e ∷ es) c x each found = by_told (told es c) (covers e c) refl (told_tells tells next es c x each.1) found
   where
     keyed : covers e c ≡ true → list_all is_filled c.key ≡ true
-    keyed is = ap (list_all is_filled) (sym (key_same e.key c.key (both (e.table == c.table) _ (both (is_of c.table c.key e) _ is).0).1)) ∙ each.0.keyed
+    keyed is = ap (list_all is_filled) (sym (key_same e.key c.key (and_parts (e.table == c.table) _ (and_parts (is_of c.table c.key e) _ is).0).1)) ∙ each.0.keyed
 
     by_told : (o : Option Told) (b : Bool) → covers e c ≡ b → (o ≡ Some x → Tells tells next c.key x) → option_or o (then_some b (told_of e)) ≡ Some x → Tells tells next c.key x
     by_told (Some y) b here rest is = rest is
-    by_told None true here rest is = subst (Tells tells next c.key) (one_some (told_of e) x is) (each.0.given, each.0.told, each.0.filled, keyed here)
+    by_told None true here rest is = subst (Tells tells next c.key) (same_Some (told_of e) x is) (each.0.given, each.0.told, each.0.filled, keyed here)
     by_told None false here rest is = absurd (cc)
 
 -- what is told of a key, written again
@@ -88,15 +89,10 @@ pub net_sound : (tells : ℕ → Told) (next moment : ℕ) (user : List ℕ) (es
 net_sound tells next moment user es each =
     each_listing (IsSound tells next) one_stamp (replayed moment user) es (told es) (λ g t s is. again_sound tells next moment user g s (told_tells tells next es (cell g t) s.value each is))
 
--- what the one says where the other says nothing, the one says
-outside_told : (o p : Option Told) (x : Told) → outside o p ≡ Some x → p ≡ Some x
-outside_told (Some y) p x is = absurd (cc)
-outside_told None p x is = is
-
 pub gained_sound : (tells : ℕ → Told) (next moment : ℕ) (user : List ℕ) (own pending : List Entry) → Each (IsSound tells next) pending → Each (IsSound tells next) (gained moment user own pending)
 gained_sound tells next moment user own pending each =
     each_listing (IsSound tells next) one_stamp (replayed moment user) (own ++ pending) (gained_at own pending)
-    (λ g t s is. again_sound tells next moment user g s (told_tells tells next pending (cell g t) s.value each (outside_told (told own (cell g t)) (told pending (cell g t)) s.value is)))
+    (λ g t s is. again_sound tells next moment user g s (told_tells tells next pending (cell g t) s.value each (outside_given (told own (cell g t)) (told pending (cell g t)) s.value is)))
 
 pub each_drop : (P : Entry → Type 0) (n : ℕ) (xs : List Entry) → Each P xs → Each P (drop n xs)
 each_drop P zero xs each = each

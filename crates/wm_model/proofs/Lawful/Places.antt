@@ -1,11 +1,10 @@
 -- In a lawful state the workspace that a session stands in is there, and so is the savepoint.
 use Rattle.std.proofs.Common.{◌≡◌, ℕ, Bool, true, false, List, [], ◌∷◌, Option, Some, None, is_some, option_map, unwrap_or, refl, sym, ap, ◌∙◌, subst, if◌then◌else◌}
+use Rattle.std.proofs.lemmas.Option.{same_Some}
 use Rattle.std.specs.List.{find}
 use Rattle.std.specs.Str.{bytes_eq}
 use Rattle.wm_model.specs.Lawful.{IsAt, IsPlace, LawfulState, Seats}
-use Rattle.wm_model.specs.Step.{at_home, home_of, saved_at, session_of}
-use Rattle.wm_model.proofs.Lawful.Lists.{one_some}
-use Rattle.wm_print.specs.Texts.{Answer}
+use Rattle.wm_model.specs.Step.{home_of, saved_at, session_of}
 use Rattle.wm_state.specs.State.{Savepoint, Session, Stand, Latest, At, State, Workspace, fresh_live, savepoint_made, workspace_of}
 
 seat_found : (ws : List Workspace) (P : Session → Bool) (xs : List Session) (x : Session) → Seats ws xs → find P xs ≡ Some x → IsPlace ws x.space x.stand
@@ -13,7 +12,7 @@ seat_found ws P [] x s found = absurd (cc)
 seat_found ws P (y ∷ ys) x s found = by_test (P y) found (seat_found ws P ys x s.1)
   where
     by_test : (b : Bool) → (if b then Some y else find P ys) ≡ Some x → (find P ys ≡ Some x → IsPlace ws x.space x.stand) → IsPlace ws x.space x.stand
-    by_test true h rest = subst (λ (z : Session). IsPlace ws z.space z.stand) (one_some y x h) s.0
+    by_test true h rest = subst (λ (z : Session). IsPlace ws z.space z.stand) (same_Some y x h) s.0
     by_test false h rest = rest h
 
 -- where a session of the state stands
@@ -23,9 +22,6 @@ place_of s name session l found = seat_found s.durable.spaces (λ (x : Session).
 -- its workspace is there
 pub home_found : (s : State) (session : Session) → IsPlace s.durable.spaces session.space session.stand → workspace_of s.durable.spaces session.space ≡ Some (home_of s session)
 home_found s session p = p.is ∙ ap (λ (o : Option Workspace). Some (unwrap_or o fresh_live)) (sym p.is)
-
-pub home_is : (s : State) (session : Session) (act : Workspace → State × Answer) (p : IsPlace s.durable.spaces session.space session.stand) → at_home s session act ≡ act p.space
-home_is s session act p = rw p.is refl
 
 -- and so is what a savepoint is made of where one stands
 pub saved_there : (m : ℕ) (spaces : List Workspace) (w : Workspace) (stand : Stand) (name : List ℕ) (implicit : Bool) → IsAt w stand → is_some (saved_at m spaces w stand name implicit) ≡ true

@@ -1,7 +1,7 @@
 -- A workspace that is rebased on its parent stays lawful, and so do the workspaces.
 use Rattle.std.proofs.Common.{◌≡◌, ℕ, zero, suc, ◌+◌, ◌<◌, ◌≤◌, Bool, true, false, if◌then◌else◌, List, [], ◌∷◌, ◌++◌, length, get_or, slice_get, Some, refl, sym, ap, ◌∙◌, subst, arith, length-append, le_refl, ◌⊎◌, inl, inr}
 use Rattle.std.proofs.lemmas.Bool.{ne_eqb}
-use Rattle.std.proofs.lemmas.Option.{slice_get-get_or}
+use Rattle.std.proofs.lemmas.Option.{slice_get-get_or, same_Some}
 use Rattle.wm_net.proofs.Merging.{base_law, point_longer}
 use Rattle.wm_spec.specs.Lists.{Alike, Entry}
 use Rattle.wm_state.proofs.Changing.{differ-changed}
@@ -9,7 +9,7 @@ use Rattle.wm_state.specs.Editing.{rebased, turn_on}
 use Rattle.wm_state.specs.State.{Savepoint, Turn, Workspace, content, turn_of, with_gained, with_space, workspace_of}
 use Rattle.wm_model.specs.Lawful.{Based, Each, Holds, LawfulMark, LawfulSpace, LawfulSpaces, point}
 use Rattle.wm_model.proofs.Lawful.Entries.{each_append}
-use Rattle.wm_model.proofs.Lawful.Lists.{one_some, one_turn}
+use Rattle.wm_model.proofs.Lawful.Lists.{one_turn}
 use Rattle.wm_model.proofs.Lawful.Spaces.{Becomes, spaces_become, swapped}
 
 -- ---- a turn more
@@ -41,7 +41,7 @@ pub record Over (p w : Workspace) : Type 0 where
 
 pub over_parent : (ws : List Workspace) (w p : Workspace) → Based ws w → workspace_of ws w.parent ≡ Some p → Over p w
 over_parent ws w p b found =
-    subst (λ (x : Workspace). Over x w) (one_some b.parent p (sym b.is ∙ found)) (record { older = b.older; within = b.within; before = b.before; alike = b.alike })
+    subst (λ (x : Workspace). Over x w) (same_Some b.parent p (sym b.is ∙ found)) (record { older = b.older; within = b.within; before = b.before; alike = b.alike })
 
 turns_there : (w : Workspace) → LawfulSpace w → 0 < w.number → length w.turns ≡ w.rebases + 1
 turns_there w l above = l.turns ∙ rw (ne_eqb w.number 0 (λ none. absurd (omega (arith, above, none)))) refl

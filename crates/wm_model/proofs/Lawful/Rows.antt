@@ -1,5 +1,7 @@
 -- No text of a row that a lawful state shows is empty, and none of a row that a line writes.
 use Rattle.std.proofs.Common.{◌≡◌, ℕ, ◌+◌, ◌&&◌, Bool, true, false, cond, List, [], ◌∷◌, map, Option, Some, None, option_map, refl, sym, ap, ◌∙◌}
+use Rattle.std.proofs.lemmas.Bool.{and_from, and_parts}
+use Rattle.std.proofs.lemmas.Option.{same_Some}
 use Rattle.std.specs.List.{list_all, filter_map, cons_option}
 use Rattle.std.specs.Bool.{then_some}
 use Rattle.std.specs.Option.{option_map_or, option_or, option_and_then}
@@ -22,13 +24,12 @@ use Rattle.wm_spec.specs.declared.record.table.Table.{Table}
 use Rattle.wm_state.specs.Editing.{row_value}
 use Rattle.wm_state.specs.Listing.{row_on, row_shown, seen_row, span_on, with_span}
 use Rattle.wm_state.specs.State.{Durable, Workspace, content, workspace_of}
-use Rattle.wm_state.proofs.Tests.{all_filter, all_push, and_true, both}
+use Rattle.wm_state.proofs.Tests.{all_filter, all_push}
 use Rattle.wm_model.specs.Entered.{entries_from}
 use Rattle.wm_model.specs.Lawful.{Each, IsSound, Lawful, is_full_row}
 use Rattle.wm_model.specs.Step.{rows_in}
 use Rattle.wm_model.proofs.Filled.{declared_filled, filled_key}
 use Rattle.wm_model.proofs.Lawful.Entries.{Written, each_append, each_if}
-use Rattle.wm_model.proofs.Lawful.Lists.{one_some}
 
 -- ---- rows that are read
 
@@ -77,7 +78,7 @@ mapped_full f each (x ∷ xs) = by_row (f x) (each x) (mapped_full f each xs)
   where
     by_row : (o : Option Row) → shows_full o ≡ true → list_all is_full_row (filter_map f xs) ≡ true → list_all is_full_row (cons_option o (filter_map f xs)) ≡ true
     by_row None h rest = rest
-    by_row (Some r) h rest = and_true (is_full_row r) (list_all is_full_row (filter_map f xs)) h rest
+    by_row (Some r) h rest = and_from (is_full_row r) (list_all is_full_row (filter_map f xs)) h rest
 
 pub rows_full : (period : Span) (es : List Entry) (table : Table) → Each Full es → list_all is_full_row (rows_in period es table) ≡ true
 rows_full period es table full = mapped_full (row_shown es table.number table.valid period) each (rows es table.number)
@@ -100,55 +101,55 @@ abbrev pub are_full : List (List Value) → Bool
 are_full rows = list_all (list_all is_filled) rows
 
 pub updated_full : (table : Table) (sets : List Set) (rows : List Row) (new : List (List Value)) → list_all is_full_row rows ≡ true → updated_rows table sets rows ≡ Some new → are_full new ≡ true
-updated_full table sets [] new full made = ap are_full (sym (one_some [] new made))
+updated_full table sets [] new full made = ap are_full (sym (same_Some [] new made))
 updated_full table sets (r ∷ rs) new full made =
-    by_parts (updated_row table sets r) (updated_rows table sets rs) refl refl made (both (is_full_row r) (list_all is_full_row rs) full) (updated_full table sets rs)
+    by_parts (updated_row table sets r) (updated_rows table sets rs) refl refl made (and_parts (is_full_row r) (list_all is_full_row rs) full) (updated_full table sets rs)
   where
     by_parts : (o : Option (List Value)) (os : Option (List (List Value))) → updated_row table sets r ≡ o → updated_rows table sets rs ≡ os → row_before o os ≡ Some new → (is_full_row r ≡ true) × (list_all is_full_row rs ≡ true)
         → ((ws : List (List Value)) → list_all is_full_row rs ≡ true → updated_rows table sets rs ≡ Some ws → are_full ws ≡ true) → are_full new ≡ true
     by_parts None os one others e h rest = absurd (cc)
     by_parts (Some w) None one others e h rest = absurd (cc)
     by_parts (Some w) (Some ws) one others e h rest =
-        ap are_full (sym (one_some (w ∷ ws) new e))
-        ∙ and_true (list_all is_filled w) (are_full ws) (new_filled (own_columns table) sets r table.columns r.values w h.0 one) (rest ws h.1 others)
+        ap are_full (sym (same_Some (w ∷ ws) new e))
+        ∙ and_from (list_all is_filled w) (are_full ws) (new_filled (own_columns table) sets r table.columns r.values w h.0 one) (rest ws h.1 others)
 
 -- a row under its key
 pub keyed_row : (table : Table) (row : List Value) → list_all is_filled row ≡ true → (list_all is_filled (row_key table row) && list_all is_filled row) ≡ true
-keyed_row table row full = and_true (list_all is_filled (row_key table row)) (list_all is_filled row) (filled_key table row full) full
+keyed_row table row full = and_from (list_all is_filled (row_key table row)) (list_all is_filled row) (filled_key table row full) full
 
 pub replacing_full : (table : Table) (period : Span) (rows : List Row) (new : List (List Value)) → are_full new ≡ true → list_all is_full_change (replacing table period rows new) ≡ true
 replacing_full table period [] new full = refl
 replacing_full table period (r ∷ rs) [] full = refl
 replacing_full table period (r ∷ rs) (v ∷ vs) full =
-    let h = both (list_all is_filled v) (are_full vs) full in
-    and_true (is_full_change (replaced table period r v)) (list_all is_full_change (replacing table period rs vs)) (keyed_row table v h.0) (replacing_full table period rs vs h.1)
+    let h = and_parts (list_all is_filled v) (are_full vs) full in
+    and_from (is_full_change (replaced table period r v)) (list_all is_full_change (replacing table period rs vs)) (keyed_row table v h.0) (replacing_full table period rs vs h.1)
 
 moves_full : (table : Table) (sets : List Set) (rows : List Row) (new : List (List Value)) → are_full new ≡ true → list_all (λ (m : Move). is_full_change (moved_row m)) (moves_of table sets rows new) ≡ true
 moves_full table sets [] new full = refl
 moves_full table sets (r ∷ rs) [] full = refl
 moves_full table sets (r ∷ rs) (v ∷ vs) full =
-    let h = both (list_all is_filled v) (are_full vs) full in
-    and_true (is_full_change (moved_row (move_of table sets r v))) (list_all (λ (m : Move). is_full_change (moved_row m)) (moves_of table sets rs vs)) (keyed_row table v h.0) (moves_full table sets rs vs h.1)
+    let h = and_parts (list_all is_filled v) (are_full vs) full in
+    and_from (is_full_change (moved_row (move_of table sets r v))) (list_all (λ (m : Move). is_full_change (moved_row m)) (moves_of table sets rs vs)) (keyed_row table v h.0) (moves_full table sets rs vs h.1)
 
 pub moving_full : (table : Table) (sets : List Set) (rows : List Row) (new : List (List Value)) → are_full new ≡ true → list_all is_full_change (moving (moves_of table sets rows new)) ≡ true
 moving_full table sets rows new full =
     written_pass is_full_change (moves_of table sets rows new) (moves_full table sets rows new full)
-    (λ m part e. and_true (list_all is_filled m.key) true (both (list_all is_filled m.key) (list_all is_filled m.row) e).0 refl)
+    (λ m part e. and_from (list_all is_filled m.key) true (and_parts (list_all is_filled m.key) (list_all is_filled m.row) e).0 refl)
 
 pub gone_full : (table : Table) (period : Span) (rows : List Row) → list_all is_full_row rows ≡ true → list_all is_full_change (map (gone table period) rows) ≡ true
 gone_full table period [] full = refl
 gone_full table period (r ∷ rs) full =
-    let h = both (is_full_row r) (list_all is_full_row rs) full in
+    let h = and_parts (is_full_row r) (list_all is_full_row rs) full in
     let key = filled_key table (declared_values table r.values) (declared_filled table r.values h.0) in
-    and_true (is_full_change (gone table period r)) (list_all is_full_change (map (gone table period) rs)) (and_true (list_all is_filled (row_key table (declared_values table r.values))) true key refl)
+    and_from (is_full_change (gone table period r)) (list_all is_full_change (map (gone table period) rs)) (and_from (list_all is_filled (row_key table (declared_values table r.values))) true key refl)
     (gone_full table period rs h.1)
 
 -- changes in which no text is empty, as entries
 pub entries_written : (next moment : ℕ) (user : List ℕ) (table : Table) (changes : List RowChange) → list_all is_full_change changes ≡ true → Written next (entries_from next moment user table changes)
 entries_written next moment user table [] full = tt
 entries_written next moment user table (x ∷ xs) full =
-    let h = both (is_full_change x) (list_all is_full_change xs) full in
-    let one = both (list_all is_filled x.key) (writes_filled x) h.0 in
+    let h = and_parts (is_full_change x) (list_all is_full_change xs) full in
+    let one = and_parts (list_all is_filled x.key) (writes_filled x) h.0 in
     (refl, by_row x.row one.1, one.0, entries_written (next + 1) moment user table xs h.1)
   where
     by_row : (o : Option (List Value)) → option_map_or (list_all is_filled) o true ≡ true → option_map_or is_full_row (option_map row_value o) true ≡ true

@@ -1,22 +1,23 @@
 -- Each state that lines lead to from a fresh store, over runs, is lawful.
 use Rattle.std.proofs.Common.{◌≡◌, ℕ, Bool, true, false, cond, List, [], ◌∷◌, Some, None, refl, sym, ap, subst, arith, ◌==◌}
+use Rattle.std.proofs.lemmas.Option.{same_Some}
 use Rattle.wm_base.specs.declared.kind.Kind.TheVariants.{Insert}
 use Rattle.wm_spec.specs.Lists.{Told}
 use Rattle.wm_state.specs.State.{State, Workspace, begin, fresh, fresh_live, workspace_of}
 use Rattle.wm_model.specs.Lawful.{Holds, IsSound, Lawful, LawfulEntries, LawfulSpace, LawfulSpaces, LawfulState, Reached, Made, Begun, Stepped}
 use Rattle.wm_model.specs.Running.{after}
 use Rattle.wm_model.specs.Step.{step}
-use Rattle.wm_model.proofs.Lawful.Lists.{one_some}
 use Rattle.wm_model.proofs.Lawful.Spaces.{number_is}
 use Rattle.wm_model.proofs.Lawful.Step.{lawful_step}
 
 -- ---- a fresh store
 
-one_live : (n : ℕ) (w : Workspace) → workspace_of (fresh_live ∷ []) n ≡ Some w → w ≡ fresh_live
+-- LIVE alone is there
+pub one_live : (n : ℕ) (w : Workspace) → workspace_of (fresh_live ∷ []) n ≡ Some w → w ≡ fresh_live
 one_live n w found = by_test (0 == n) found
   where
     by_test : (b : Bool) → cond b (Some fresh_live) None ≡ Some w → w ≡ fresh_live
-    by_test true h = sym (one_some fresh_live w h)
+    by_test true h = sym (same_Some fresh_live w h)
     by_test false h = absurd (cc)
 
 fresh_lawful : LawfulSpace fresh_live

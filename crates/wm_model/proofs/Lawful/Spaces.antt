@@ -1,6 +1,7 @@
 -- Lawful workspaces of which one goes on, and with one more.
 use Rattle.std.proofs.Common.{◌≡◌, ◌≢◌, ℕ, ◌<◌, ◌≤◌, ◌==◌, Bool, true, false, cond, List, [], ◌∷◌, ◌++◌, length, Option, Some, None, is_some, refl, sym, ap, ◌∙◌, subst, arith, length-append, ◌⊎◌, inl, inr, le_refl, append-nil, slice_get}
 use Rattle.std.proofs.lemmas.Bool.{cases_eq, eqb-true, eq-eqb, ne_eqb}
+use Rattle.std.proofs.lemmas.Option.{same_Some}
 use Rattle.std.specs.List.{find}
 use Rattle.std.specs.Str.{bytes_eq}
 use Rattle.wm_graph.specs.Rules.{differ}
@@ -11,7 +12,7 @@ use Rattle.wm_state.proofs.Changing.{workspace_of-changed}
 use Rattle.wm_state.proofs.Mapped.{find-again, find-passes, none-found}
 use Rattle.wm_state.proofs.Tests.{differ_push, find_push}
 use Rattle.wm_model.specs.Lawful.{Based, IsAt, IsPlace, LawfulMark, LawfulSpace, LawfulSpaces, Seats, one_number, point}
-use Rattle.wm_model.proofs.Lawful.Lists.{found_either, one_some, one_turn}
+use Rattle.wm_model.proofs.Lawful.Lists.{found_either, one_turn}
 use Rattle.wm_net.proofs.Merging.{point_longer}
 
 -- ---- what is found
@@ -33,7 +34,7 @@ under [] n w found = absurd (cc)
 under (v ∷ ws) n w found = by_test (v.number == n) found (under ws n w)
   where
     by_test : (b : Bool) → cond b (Some v) (workspace_of ws n) ≡ Some w → (workspace_of ws n ≡ Some w → w.number < next_space ws) → w.number < next_space (v ∷ ws)
-    by_test true h rest = let same : v.number ≡ w.number = ap (λ (x : Workspace). x.number) (one_some v w h) in omega (arith, same)
+    by_test true h rest = let same : v.number ≡ w.number = ap (λ (x : Workspace). x.number) (same_Some v w h) in omega (arith, same)
     by_test false h rest = let less : w.number < next_space ws = rest h in omega (arith, less)
 
 pub none_at : (ws : List Workspace) → workspace_of ws (next_space ws) ≡ None
@@ -94,7 +95,7 @@ pub found_swapped : (ws vs : List Workspace) (n : ℕ) (w v : Workspace) → Swa
 found_swapped ws vs n w v k m x found = by_number (cases_eq m n)
   where
     by_number : (m ≡ n) ⊎ (m ≢ n) → ((m ≡ n) × (x ≡ v)) ⊎ ((m ≢ n) × (workspace_of ws m ≡ Some x))
-    by_number (inl here) = inl (here, one_some x v (sym found ∙ ap (workspace_of vs) here ∙ k.now))
+    by_number (inl here) = inl (here, same_Some x v (sym found ∙ ap (workspace_of vs) here ∙ k.now))
     by_number (inr other) = inr (other, sym (k.others m other) ∙ found)
 
 -- a workspace becomes another one of its number: what its children took of it is in the log of both, they are alike at each length that
@@ -125,7 +126,7 @@ based_become ws vs n w v x y k child number parent from turns b = by_parent (cas
       alike = λ i t found. b.alike i t (turn i t found);
     }
     by_parent (inl here) =
-        let same : b.parent ≡ w = one_some b.parent w (sym b.is ∙ ap (workspace_of ws) here ∙ k.swap.was) in
+        let same : b.parent ≡ w = same_Some b.parent w (sym b.is ∙ ap (workspace_of ws) here ∙ k.swap.was) in
         let log : length b.parent.lists.log ≡ length w.lists.log = ap (λ (u : Workspace). length u.lists.log) same in
         let within : x.from ≤ length v.lists.log = child here in
         record {
@@ -180,7 +181,7 @@ kept_becomes ws vs n w v l k = record {
   rebases = omega (arith, k.goes.rebases);
   children = λ m x above found here.
       let b = l.bases m x above found in
-      let log : length b.parent.lists.log ≡ length w.lists.log = ap (λ (u : Workspace). length u.lists.log) (one_some b.parent w (sym b.is ∙ ap (workspace_of ws) here ∙ k.swap.was)) in
+      let log : length b.parent.lists.log ≡ length w.lists.log = ap (λ (u : Workspace). length u.lists.log) (same_Some b.parent w (sym b.is ∙ ap (workspace_of ws) here ∙ k.swap.was)) in
       omega (arith, log, b.within, ap (λ (l : List Entry). length l) k.goes.log, length-append w.lists.log k.goes.more);
   points = λ i le under. rw (k.goes.first, k.goes.log) (point_longer w.lists.at_birth w.lists.log k.goes.more i le);
 }
@@ -198,7 +199,7 @@ place_swapped ws vs n w v m stand swap at p = by_number (cases_eq m n)
     by_number (inl here) = record {
       space = v;
       is = rw here swap.now;
-      stands = at here (subst (λ (x : Workspace). IsAt x stand) (one_some p.space w (sym p.is ∙ ap (workspace_of ws) here ∙ swap.was)) p.stands);
+      stands = at here (subst (λ (x : Workspace). IsAt x stand) (same_Some p.space w (sym p.is ∙ ap (workspace_of ws) here ∙ swap.was)) p.stands);
     }
     by_number (inr other) = record { space = p.space; is = swap.others m other ∙ p.is; stands = p.stands }
 

@@ -1,5 +1,6 @@
 -- What sessions have staged: what is so of each entry of it stays so, whatever is set of a session.
 use Rattle.std.proofs.Common.{◌≡◌, ℕ, Bool, true, false, if◌then◌else◌, List, [], ◌∷◌, ◌++◌, Option, Some, None, option_map, subst}
+use Rattle.std.proofs.lemmas.Option.{same_Some}
 use Rattle.std.specs.List.{filter, find, flat_map}
 use Rattle.std.specs.Option.{option_map_or}
 use Rattle.std.specs.Str.{bytes_eq}
@@ -9,7 +10,6 @@ use Rattle.wm_model.specs.Lawful.{Each, staged_in, staged_of}
 use Rattle.wm_model.specs.Step.{Setting, altered, decisions_of, with_decisions, with_setting}
 use Rattle.wm_model.specs.Step.Sessions as settings
 use Rattle.wm_model.proofs.Lawful.Entries.{each_append, each_split}
-use Rattle.wm_model.proofs.Lawful.Lists.{one_some}
 
 -- what a session has staged
 abbrev pub staged_by : Session → List Entry
@@ -37,7 +37,7 @@ staged_found P test [] x each found = absurd (cc)
 staged_found P test (y ∷ ys) x each found = let h = each_split P (staged_by y) (staged_in ys) each in by_test (test y) h.0 (staged_found P test ys x h.1) found
   where
     by_test : (b : Bool) → Each P (staged_by y) → (find test ys ≡ Some x → Each P (staged_by x)) → (if b then Some y else find test ys) ≡ Some x → Each P (staged_by x)
-    by_test true here rest is = subst (λ (z : Session). Each P (staged_by z)) (one_some y x is) here
+    by_test true here rest is = subst (λ (z : Session). Each P (staged_by z)) (same_Some y x is) here
     by_test false here rest is = rest is
 
 -- ---- what is set

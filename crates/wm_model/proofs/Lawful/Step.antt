@@ -1,6 +1,7 @@
 -- Each line leaves a lawful state.
 use Rattle.std.proofs.Common.{◌≡◌, ℕ, ◌+◌, ◌==◌, Bool, true, false, not, nat_le, if◌then◌else◌, List, [], ◌∷◌, ◌++◌, length, map, unwrap_or, Option, Some, None, is_some, option_map, Result, Ok, Err, refl, sym, ap, ◌∙◌}
-use Rattle.std.proofs.lemmas.Bool.{eq-eqb}
+use Rattle.std.proofs.lemmas.Bool.{eq-eqb, and_from, true≢false}
+use Rattle.std.proofs.lemmas.Option.{same_Some}
 use Rattle.std.specs.List.{find, list_all}
 use Rattle.std.specs.Str.{bytes_eq, is_utf8}
 use Rattle.wm_base.specs.Period.{Span}
@@ -32,7 +33,6 @@ use Rattle.wm_model.specs.Step.{Answer, State, add_found, add_to, altered, at_ne
 use Rattle.wm_model.proofs.Lawful.Leaves.{Leaves, leaves_born, leaves_conflict, leaves_durably, leaves_gone, leaves_if, leaves_period, leaves_saved, leaves_seated, leaves_tables, leaves_unless, leaves_with_named, leaves_written, leaving, live_place, seats_filter, seats_push, stays}
 use Rattle.wm_model.proofs.Lawful.Places.{home_found, place_of}
 use Rattle.wm_model.proofs.Lawful.Rows.{are_full, chosen_full, content_full, entries_written, gone_full, is_full_change, keyed_row, moving_full, replacing_full, rows_full, updated_full}
-use Rattle.wm_model.proofs.Lawful.Lists.{one_some}
 use Rattle.wm_model.proofs.Lawful.Merging.{leaves_merge_workspace, leaves_refresh_workspace}
 use Rattle.wm_model.proofs.Lawful.Resolving.{leaves_begin_resolve, leaves_commit_resolve, leaves_resolve_conflicts, leaves_rollback_resolve}
 use Rattle.wm_model.proofs.Lawful.Staging.{staged_filter, staged_push}
@@ -42,7 +42,6 @@ use Rattle.wm_reader.specs.Reading.{is_remark}
 use Rattle.wm_spec.specs.declared.record.table.Table.{Table}
 use Rattle.wm_state.specs.Drawing.{are_sorted}
 use Rattle.wm_state.specs.State.{Readiness, Savepoint, Session, Stand, Latest, At, Workspace, content, savepoint_made, savepoint_named, workspace_of}
-use Rattle.wm_state.proofs.Tests.{and_true, bool_apart}
 
 -- ---- sessions and the moment
 
@@ -126,7 +125,7 @@ writes_found user table period names values s w l found = by_row (row_of table n
   where
     by_row : (o : Option (List Value)) → row_of table names values ≡ o → Leaves (add_found user table period o s w)
     by_row None is = stays s _ l
-    by_row (Some row) is = leaves_unless (row_fault table row) s _ l (writes_add user table period row (and_true _ true (keyed_row table row (row_filled table names values row is)) refl) s w l found)
+    by_row (Some row) is = leaves_unless (row_fault table row) s _ l (writes_add user table period row (and_from _ true (keyed_row table row (row_filled table names values row is)) refl) s w l found)
 
 leaves_insert : (session : Session) (name : List ℕ) (names : Option (List (List ℕ))) (values : List Expr) (empty : Bool) (s : State) → LawfulState s → IsHere s session → Leaves (insert session name names values empty s)
 leaves_insert session name names values empty s l p =
@@ -197,7 +196,7 @@ made_some P (x ∷ xs) k found = by_test (P x) (x.making == k.making) refl found
     by_test : (b c : Bool) → (x.making == k.making) ≡ c → (if b then Some x else find P xs) ≡ Some k → (find P xs ≡ Some k → is_some (savepoint_made k.making xs) ≡ true)
         → is_some (if c then Some x else savepoint_made k.making xs) ≡ true
     by_test b true is h rest = refl
-    by_test true false is h rest = absurd (bool_apart (sym (eq-eqb x.making k.making (ap (λ (y : Savepoint). y.making) (one_some x k h))) ∙ is))
+    by_test true false is h rest = absurd (true≢false (sym (eq-eqb x.making k.making (ap (λ (y : Savepoint). y.making) (same_Some x k h))) ∙ is))
     by_test false false is h rest = rest h
 
 leaves_goto_savepoint : (session : Session) (name : List ℕ) (s : State) → LawfulState s → IsHere s session → Leaves (goto_savepoint session name s)

@@ -1,11 +1,11 @@
 -- A workspace that goes back to one of its savepoints, and workspaces of which one goes, leave a lawful state.
 use Rattle.std.proofs.Common.{◌≡◌, ◌≢◌, ℕ, zero, suc, ◌<◌, ◌≤◌, ◌==◌, Bool, true, false, not, ◌&&◌, ◌||◌, nat_le, nat_lt, if◌then◌else◌, List, [], ◌∷◌, ◌++◌, length, take, drop, Option, Some, None, is_some, refl, sym, ap, ◌∙◌, append_assoc, arith, ◌⊎◌, inl, inr, le_refl}
-use Rattle.std.proofs.lemmas.Bool.{cases_eq, eq-eqb, eqb-true, leb-true, ne_eqb}
-use Rattle.std.proofs.lemmas.Bool.Decides.{nat_tests}
+use Rattle.std.proofs.lemmas.Bool.{cases_eq, eq-eqb, eqb-true, leb-true, ne_eqb, and_parts, ltb-false, not-false, not-true, or_parts, true≢false}
 use Rattle.std.proofs.lemmas.List.{append_cancel_right, drop-append-le, length-take-le, take-append-drop}
 use Rattle.std.specs.List.{find, list_any}
 use Rattle.std.specs.Option.{option_map_or}
 use Rattle.std.specs.Str.{bytes_eq}
+use Rattle.wm_base.proofs.Plain.{and_last}
 use Rattle.wm_base.specs.declared.refusal.Refusal.{Refusal}
 use Rattle.wm_net.proofs.Merging.{point_cut}
 use Rattle.wm_print.specs.Texts.{Fine}
@@ -14,7 +14,7 @@ use Rattle.wm_state.specs.Editing.{is_other, restored, restored_in, stays_at, wi
 use Rattle.wm_state.specs.State.{Durable, Savepoint, Session, Stand, Latest, At, Workspace, savepoint_made, savepoint_named, turn_of, with_space, workspace_of}
 use Rattle.wm_state.proofs.Changing.{differ-changed}
 use Rattle.wm_state.proofs.Mapped.{find-filter, find-passes}
-use Rattle.wm_state.proofs.Tests.{bool_apart, both, differ_filter, either_false, not_true}
+use Rattle.wm_state.proofs.Tests.{differ_filter}
 use Rattle.wm_model.specs.Lawful.{Based, Each, Holds, IsAt, IsPlace, IsSound, Lawful, LawfulMark, LawfulSpace, LawfulSpaces, LawfulState, Seats, one_number}
 use Rattle.wm_model.specs.Step.{Answer, State, dependent_child, depends, first_fault, has_child, is_child, no_parent, no_savepoint, rebased_since, remove, remove_workspace, removing_faults, roll_back, rollback_to, rolling_faults, is_still, session_inside, stands_behind, stands_in, unless, would_go}
 use Rattle.wm_model.proofs.Lawful.Entries.{all_swapped}
@@ -25,34 +25,23 @@ use Rattle.wm_model.proofs.Lawful.Spaces.{Becomes, Swapped, based_as_before, num
 
 -- ---- sessions that pass no test
 
-both_false : (a b : Bool) → (a && b) ≡ false → a ≡ true → b ≡ false
-both_false true b e is = e
-both_false false b e is = absurd (bool_apart (sym is))
-
-not_false : (b : Bool) → not b ≡ false → b ≡ true
-not_false true e = refl
-not_false false e = absurd (bool_apart e)
-
-not_less : (a b : ℕ) → nat_lt a b ≡ false → b ≤ a
-not_less a b e = grind (arith, nat_tests, e)
-
 -- where each session stands stays, where it does for each that fails a test, and all fail
 seats_unless : (ws vs : List Workspace) (test : Session → Bool) → ((x : Session) → test x ≡ false → IsPlace ws x.space x.stand → IsPlace vs x.space x.stand) → (xs : List Session) → list_any test xs ≡ false → Seats ws xs → Seats vs xs
 seats_unless ws vs test to [] none s = tt
-seats_unless ws vs test to (x ∷ xs) none s = let h = either_false (test x) (list_any test xs) none in (to x h.0 s.0, seats_unless ws vs test to xs h.1 s.1)
+seats_unless ws vs test to (x ∷ xs) none s = let h = or_parts (test x) (list_any test xs) none in (to x h.0 s.0, seats_unless ws vs test to xs h.1 s.1)
 
 -- ---- back to a savepoint
 
 -- what stays is no later, and had no more of the log
 left_shorter : (k x : Savepoint) → stays_at k x ≡ true → x.log_length ≤ k.log_length
-left_shorter k x stays = leb-true x.log_length k.log_length (both (nat_le x.place k.place) (nat_le x.log_length k.log_length) stays).1
+left_shorter k x stays = leb-true x.log_length k.log_length (and_parts (nat_le x.place k.place) (nat_le x.log_length k.log_length) stays).1
 
 -- it is found by its test and by another one
 found_left : (P : Savepoint → Bool) (w : Workspace) (k x : Savepoint) → find P (restored k w).savepoints ≡ Some x → find (λ y. stays_at k y && P y) w.savepoints ≡ Some x
 found_left P w k x found = sym (find-filter (stays_at k) P w.savepoints) ∙ found
 
 left_stays : (P : Savepoint → Bool) (w : Workspace) (k x : Savepoint) → find P (restored k w).savepoints ≡ Some x → stays_at k x ≡ true
-left_stays P w k x found = (both (stays_at k x) (P x) (find-passes (λ y. stays_at k y && P y) w.savepoints x (found_left P w k x found))).0
+left_stays P w k x found = (and_parts (stays_at k x) (P x) (find-passes (λ y. stays_at k y && P y) w.savepoints x (found_left P w k x found))).0
 
 -- what was logged since a savepoint that stays, and behind the other one
 logged_between : (n m : ℕ) (log : List Entry) → n ≤ m → m ≤ length log → drop n log ≡ drop n (take m log) ++ drop m log
@@ -106,8 +95,8 @@ NoneDepends xs d w k = (n : ℕ) (x : Workspace) → workspace_of d.spaces n ≡
 took_less : (xs : List Session) (w x : Workspace) (k : Savepoint) → x.parent ≡ w.number → x.number ≢ w.number → depends xs w k x ≡ false → x.from ≤ k.log_length
 took_less xs w x k here other none =
     let child : is_child w x ≡ true = rw (eq-eqb x.parent w.number here, ne_eqb x.number w.number other) refl in
-    let late = either_false (nat_lt k.place x.birth_place || nat_lt k.log_length x.from) _ (both_false (is_child w x) _ none child) in
-    not_less k.log_length x.from (either_false (nat_lt k.place x.birth_place) (nat_lt k.log_length x.from) late.0).1
+    let late = or_parts (nat_lt k.place x.birth_place || nat_lt k.log_length x.from) _ (and_last (is_child w x) _ child none) in
+    ltb-false k.log_length x.from (or_parts (nat_lt k.place x.birth_place) (nat_lt k.log_length x.from) late.0).1
 
 becomes_restored : {staged : List Entry} (xs : List Session) (w : Workspace) (P : Savepoint → Bool) (k : Savepoint) (d : Durable) → Lawful d staged → workspace_of d.spaces w.number ≡ Some w → find P w.savepoints ≡ Some k → k.rebases ≡ w.rebases
     → NoneDepends xs d w k
@@ -149,12 +138,12 @@ stands_restored w k (At making) none stood = by_savepoint (savepoint_made making
     by_savepoint None is none stood = absurd (cc)
     by_savepoint (Some j) is none stood =
         let P = λ (y : Savepoint). y.making == making in
-        ap (λ (o : Option Savepoint). is_some o) (find-filter (stays_at k) P w.savepoints ∙ found_both (stays_at k) P w.savepoints j is (not_false (stays_at k j) none))
+        ap (λ (o : Option Savepoint). is_some o) (find-filter (stays_at k) P w.savepoints ∙ found_both (stays_at k) P w.savepoints j is (not-false (stays_at k j) none))
 
 place_restored : (ws vs : List Workspace) (w : Workspace) (k : Savepoint) (x : Session) → Swapped ws vs w.number w (restored k w) → stands_behind w k x ≡ false → IsPlace ws x.space x.stand → IsPlace vs x.space x.stand
 place_restored ws vs w k x swap none p =
     place_swapped ws vs w.number w (restored k w) x.space x.stand swap
-    (λ here. stands_restored w k x.stand (both_false (x.space == w.number) (would_go w k x.stand) none (eq-eqb x.space w.number here))) p
+    (λ here. stands_restored w k x.stand (and_last (x.space == w.number) (would_go w k x.stand) (eq-eqb x.space w.number here) none)) p
 
 leaves_restored : (w : Workspace) (P : Savepoint → Bool) (k : Savepoint) (s : State) (answer : Answer) → LawfulState s → workspace_of s.durable.spaces w.number ≡ Some w → find P w.savepoints ≡ Some k → k.rebases ≡ w.rebases
     → NoneDepends s.sessions s.durable w k
@@ -188,8 +177,8 @@ was_found n m ws x found = (away, sym (found_other n m away ws) ∙ found)
 
     away : m ≢ n
     away same =
-        let h = both (is_other n x.number) (x.number == m) (find-passes (λ (v : Workspace). is_other n v.number && (v.number == m)) ws x is) in
-        bool_apart (sym (eq-eqb x.number n (eqb-true x.number m h.1 ∙ same)) ∙ not_true (x.number == n) h.0)
+        let h = and_parts (is_other n x.number) (x.number == m) (find-passes (λ (v : Workspace). is_other n v.number && (v.number == m)) ws x is) in
+        true≢false (sym (eq-eqb x.number n (eqb-true x.number m h.1 ∙ same)) ∙ not-true (x.number == n) h.0)
 
 -- no workspace is a child of the one that goes
 abbrev pub NoChild : List Workspace → Workspace → Type 0
@@ -206,7 +195,7 @@ based_left ws w x other none b = record {
 }
   where
     away : x.parent ≢ w.number
-    away here = bool_apart (sym (let child : is_child w x ≡ true = rw (eq-eqb x.parent w.number here, ne_eqb x.number w.number other) refl in child) ∙ none)
+    away here = true≢false (sym (let child : is_child w x ≡ true = rw (eq-eqb x.parent w.number here, ne_eqb x.number w.number other) refl in child) ∙ none)
 
 spaces_left : (ws : List Workspace) (w : Workspace) → LawfulSpaces ws → 0 < w.number → NoChild ws w → LawfulSpaces (without w.number ws)
 spaces_left ws w l above none = record {
@@ -222,7 +211,7 @@ spaces_left ws w l above none = record {
 place_left : (ws : List Workspace) (w : Workspace) (x : Session) → stands_in w x ≡ false → IsPlace ws x.space x.stand → IsPlace (without w.number ws) x.space x.stand
 place_left ws w x none p = record {
   space = p.space;
-  is = found_other w.number x.space (λ here. bool_apart (sym (eq-eqb x.space w.number here) ∙ none)) ws ∙ p.is;
+  is = found_other w.number x.space (λ here. true≢false (sym (eq-eqb x.space w.number here) ∙ none)) ws ∙ p.is;
   stands = p.stands;
 }
 
@@ -257,7 +246,7 @@ leaves_roll_back w P k s l known found none =
     let rebased = not_refused (not (k.rebases == w.rebases)) (rebased_since k.name) refl h.1.1.0 in
     leaves_if (is_still w k) _ _ (stays s _ l)
     (leaves_durably s 0 _ l
-    (leaves_restored w P k s Fine l known found (eqb-true k.rebases w.rebases (not_false (k.rebases == w.rebases) rebased)) (none_named (depends s.sessions w k) s dependent) (none_inside (stands_behind w k) s.sessions inside)))
+    (leaves_restored w P k s Fine l known found (eqb-true k.rebases w.rebases (not-false (k.rebases == w.rebases) rebased)) (none_named (depends s.sessions w k) s dependent) (none_inside (stands_behind w k) s.sessions inside)))
 
 pub leaves_rollback_to : (workspace name : List ℕ) (s : State) → LawfulState s → Leaves (rollback_to workspace name s)
 leaves_rollback_to workspace name s l = leaves_with_named s workspace _ l (λ w known. by_savepoint w known (savepoint_named name w.savepoints) refl)

@@ -19,15 +19,15 @@ move_all-requires-clause-fit c = c.in_ok-moves.ensures.fit c.requires.may_replac
 pub move_all-requires-clause-filled : goal.move_all-requires-clause-filled
 move_all-requires-clause-filled c =
     ap (list_all (λ (m : Move). is_filled_change (moved_row m))) c.in_ok-moves.ensures.exact
-    ∙ moved_filled c.args.table.now (sets_view c.args.sets.now) c.args.rows.now c.args.news.items c.requires.may_replace.stand
+    ∙ moved_filled c.args.site.table.now (sets_view c.args.sets.now) c.args.rows.now c.args.news.items c.requires.may_replace.stand
 
 pub returns-then-sets_period-clause-does : goal.returns-then-sets_period-clause-does
 returns-then-sets_period-clause-does c =
-    does_so c.args.image.now c.args.moment c.move_all.result c.args.session.now c.args.space.now (move_all c.args.session.now.user c.args.table.now c.in_ok-moves.moves.items)
-    (change_all c.args.session.now.user c.args.table.now c.args.within.now (sets_view c.args.sets.now) c.args.rows.now c.args.news.items)
+    does_so c.args.site.image.now c.args.site.moment c.move_all.result c.args.site.session.now c.args.site.space.now (move_all c.args.site.session.now.user c.args.site.table.now c.in_ok-moves.moves.items)
+    (change_all c.args.site.session.now.user c.args.site.table.now c.args.within.now (sets_view c.args.sets.now) c.args.rows.now c.args.news.items)
     (λ s w.
-    changes_moved c.args.session.now.user c.args.table.now c.args.within.now (sets_view c.args.sets.now) c.args.rows.now c.args.news.items s w (sym c.if-sets_period.ensures)
-    ∙ ap (λ ms. move_all c.args.session.now.user c.args.table.now ms s w) (sym c.in_ok-moves.ensures.exact))
+    changes_moved c.args.site.session.now.user c.args.site.table.now c.args.within.now (sets_view c.args.sets.now) c.args.rows.now c.args.news.items s w (sym c.if-sets_period.ensures)
+    ∙ ap (λ ms. move_all c.args.site.session.now.user c.args.site.table.now ms s w) (sym c.in_ok-moves.ensures.exact))
     c.move_all.ensures.does
 
 pub write_all-requires-clause-fit : goal.write_all-requires-clause-fit
@@ -38,17 +38,17 @@ write_all-requires-clause-last c = c.in_ok-changes.ensures.lasting c.requires.st
 
 pub write_all-requires-clause-counted : goal.write_all-requires-clause-counted
 write_all-requires-clause-counted c = λ none.
-    c.in_ok-changes.ensures.exact ∙ ap (λ rows. replacing c.args.table.now c.args.within.now rows c.args.news.items) (no_rows c.args.rows.now (length c.args.rows.now) refl none)
+    c.in_ok-changes.ensures.exact ∙ ap (λ rows. replacing c.args.site.table.now c.args.within.now rows c.args.news.items) (no_rows c.args.rows.now (length c.args.rows.now) refl none)
 
 pub write_all-requires-clause-filled : goal.write_all-requires-clause-filled
 write_all-requires-clause-filled c =
-    ap (list_all is_filled_change) c.in_ok-changes.ensures.exact ∙ replacing_filled c.args.table.now c.args.within.now c.args.rows.now c.args.news.items c.requires.may_replace.stand
+    ap (list_all is_filled_change) c.in_ok-changes.ensures.exact ∙ replacing_filled c.args.site.table.now c.args.within.now c.args.rows.now c.args.news.items c.requires.may_replace.stand
 
 pub returns-clause-does : goal.returns-clause-does
 returns-clause-does c =
-    does_so c.args.image.now c.args.moment c.write_all.result c.args.session.now c.args.space.now (write_ascending c.args.session.now.user c.args.table.now (length c.args.rows.now) c.in_ok-changes.changes.items)
-    (change_all c.args.session.now.user c.args.table.now c.args.within.now (sets_view c.args.sets.now) c.args.rows.now c.args.news.items)
+    does_so c.args.site.image.now c.args.site.moment c.write_all.result c.args.site.session.now c.args.site.space.now (write_ascending c.args.site.session.now.user c.args.site.table.now (length c.args.rows.now) c.in_ok-changes.changes.items)
+    (change_all c.args.site.session.now.user c.args.site.table.now c.args.within.now (sets_view c.args.sets.now) c.args.rows.now c.args.news.items)
     (λ s w.
-    changes_replaced c.args.session.now.user c.args.table.now c.args.within.now (sets_view c.args.sets.now) c.args.rows.now c.args.news.items s w (sym c.if-sets_period.ensures)
-    ∙ ap (λ xs. write_ascending c.args.session.now.user c.args.table.now (length c.args.rows.now) xs s w) (sym c.in_ok-changes.ensures.exact))
+    changes_replaced c.args.site.session.now.user c.args.site.table.now c.args.within.now (sets_view c.args.sets.now) c.args.rows.now c.args.news.items s w (sym c.if-sets_period.ensures)
+    ∙ ap (λ xs. write_ascending c.args.site.session.now.user c.args.site.table.now (length c.args.rows.now) xs s w) (sym c.in_ok-changes.ensures.exact))
     c.write_all.ensures.does

@@ -60,8 +60,14 @@ chosen_rows-requires-clause-there c = (named_is c.args.image.now c.args.name.now
 pub chosen_rows-requires-clause-typed : goal.chosen_rows-requires-clause-typed
 chosen_rows-requires-clause-typed c = where_typed (filter_view c.args.filter.now) (own_columns c.in-Some.table.now) (c.in_ok-refusal.ensures.typed c.in_default-2.is)
 
-pub delete_rows-requires-clause-there : goal.delete_rows-requires-clause-there
-delete_rows-requires-clause-there c = (named_is c.args.image.now c.args.name.now c.in-Some.table.now c.requires.rules (ap (named c.args.image.now) (sym c.as_bytes.ensures) ∙ sym c.in-Some.ensures)).there
+pub delete_rows-requires-clause-site : goal.delete_rows-requires-clause-site
+delete_rows-requires-clause-site c = record {
+  rules = c.requires.rules;
+  moment = c.requires.moment;
+  there = (named_is c.args.image.now c.args.name.now c.in-Some.table.now c.requires.rules (ap (named c.args.image.now) (sym c.as_bytes.ensures) ∙ sym c.in-Some.ensures)).there;
+  on = c.if-not-table.false;
+  home = ap (space_of (parts_of c.args.image.now).spaces) (sym c.space.ensures) ∙ sym c.in-Some-space.ensures;
+}
 
 pub delete_rows-requires-clause-keyed : goal.delete_rows-requires-clause-keyed
 delete_rows-requires-clause-keyed c =

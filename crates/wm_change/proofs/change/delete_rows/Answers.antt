@@ -11,26 +11,26 @@ use Rattle.wm_change.proofs.change.delete_rows.Goals as goal
 
 pub returns-then-not-are_filled-clause-does : goal.returns-then-not-are_filled-clause-does
 returns-then-not-are_filled-clause-does c =
-    let t = c.args.table.now in
-    answers_full c.args.image.now c.args.moment c.answered.result c.args.session.now c.args.space.now (write_ascending c.args.session.now.user t (length c.args.rows.now) (map (gone t c.args.within.now) c.args.rows.now)) not_built c.args.rows.now c.requires.rules
+    let t = c.args.site.table.now in
+    answers_full c.args.site.image.now c.args.site.moment c.answered.result c.args.site.session.now c.args.site.space.now (write_ascending c.args.site.session.now.user t (length c.args.rows.now) (map (gone t c.args.within.now) c.args.rows.now)) not_built c.args.rows.now c.requires.site.rules
     c.requires.full (sym c.if-not-are_filled.ensures) c.answered.ensures.edits (ap seating_view c.answered.ensures.seating) (ap answer_view c.answered.ensures.answer ∙ c.not_built.ensures)
 
 pub write_all-requires-clause-fit : goal.write_all-requires-clause-fit
-write_all-requires-clause-fit c = c.in_ok-changes.ensures.fit (keyed_stand c.args.table.now c.args.rows.now c.requires.keyed (sym c.if-not-are_filled.ensures))
+write_all-requires-clause-fit c = c.in_ok-changes.ensures.fit (keyed_stand c.args.site.table.now c.args.rows.now c.requires.keyed (sym c.if-not-are_filled.ensures))
 
 pub write_all-requires-clause-last : goal.write_all-requires-clause-last
-write_all-requires-clause-last c = c.in_ok-changes.ensures.lasting (keyed_stand c.args.table.now c.args.rows.now c.requires.keyed (sym c.if-not-are_filled.ensures))
+write_all-requires-clause-last c = c.in_ok-changes.ensures.lasting (keyed_stand c.args.site.table.now c.args.rows.now c.requires.keyed (sym c.if-not-are_filled.ensures))
 
 pub write_all-requires-clause-filled : goal.write_all-requires-clause-filled
-write_all-requires-clause-filled c = ap (list_all is_filled_change) c.in_ok-changes.ensures.exact ∙ gone_filled c.args.table.now c.args.within.now c.args.rows.now (sym c.if-not-are_filled.ensures)
+write_all-requires-clause-filled c = ap (list_all is_filled_change) c.in_ok-changes.ensures.exact ∙ gone_filled c.args.site.table.now c.args.within.now c.args.rows.now (sym c.if-not-are_filled.ensures)
 
 pub write_all-requires-clause-counted : goal.write_all-requires-clause-counted
-write_all-requires-clause-counted c = λ none. c.in_ok-changes.ensures.exact ∙ ap (map (gone c.args.table.now c.args.within.now)) (no_rows c.args.rows.now (length c.args.rows.now) refl none)
+write_all-requires-clause-counted c = λ none. c.in_ok-changes.ensures.exact ∙ ap (map (gone c.args.site.table.now c.args.within.now)) (no_rows c.args.rows.now (length c.args.rows.now) refl none)
 
 pub returns-clause-does : goal.returns-clause-does
 returns-clause-does c =
-    let t = c.args.table.now in
-    let user = c.args.session.now.user in
-    does_so c.args.image.now c.args.moment c.write_all.result c.args.session.now c.args.space.now (write_ascending user t (length c.args.rows.now) c.in_ok-changes.changes.items)
+    let t = c.args.site.table.now in
+    let user = c.args.site.session.now.user in
+    does_so c.args.site.image.now c.args.site.moment c.write_all.result c.args.site.session.now c.args.site.space.now (write_ascending user t (length c.args.rows.now) c.in_ok-changes.changes.items)
     (write_ascending user t (length c.args.rows.now) (map (gone t c.args.within.now) c.args.rows.now))
     (λ s w. ap (λ xs. write_ascending user t (length c.args.rows.now) xs s w) (sym c.in_ok-changes.ensures.exact)) c.write_all.ensures.does

@@ -60,8 +60,14 @@ chosen_rows-requires-clause-there c = (named_is c.args.image.now c.args.name.now
 pub chosen_rows-requires-clause-typed : goal.chosen_rows-requires-clause-typed
 chosen_rows-requires-clause-typed c = where_typed (filter_view c.args.filter.now) (own_columns c.in-Some.table.now) (c.in_ok-refusal.ensures.typed c.in_default-2.is)
 
-pub update_rows-requires-clause-there : goal.update_rows-requires-clause-there
-update_rows-requires-clause-there c = (named_is c.args.image.now c.args.name.now c.in-Some.table.now c.requires.rules (ap (named c.args.image.now) (sym c.as_bytes.ensures) ∙ sym c.in-Some.ensures)).there
+pub update_rows-requires-clause-site : goal.update_rows-requires-clause-site
+update_rows-requires-clause-site c = record {
+  rules = c.requires.rules;
+  moment = c.requires.moment;
+  there = (named_is c.args.image.now c.args.name.now c.in-Some.table.now c.requires.rules (ap (named c.args.image.now) (sym c.as_bytes.ensures) ∙ sym c.in-Some.ensures)).there;
+  on = c.if-not-table.false;
+  home = ap (space_of (parts_of c.args.image.now).spaces) (sym c.space.ensures) ∙ sym c.in-Some-space.ensures;
+}
 
 pub update_rows-requires-clause-keyed : goal.update_rows-requires-clause-keyed
 update_rows-requires-clause-keyed c =

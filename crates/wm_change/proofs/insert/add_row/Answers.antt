@@ -28,8 +28,14 @@ returns-in-Some-clause-does c =
     (λ s w. adds_wrong c.args.session.now.user i.table.now period found c.in-Ok.row c.in-Some.refusal s w c.in-Ok.ensures.ok (ap (row_fault i.table.now) (sym c.as_slice.ensures) ∙ sym c.in_ok-refusal.ensures.fault ∙ c.in-Some.is))
     c.answered-in-Some.ensures.edits (ap seating_view c.answered-in-Some.ensures.seating) (ap answer_view c.answered-in-Some.ensures.answer)
 
-pub add_to-requires-clause-there : goal.add_to-requires-clause-there
-add_to-requires-clause-there c = (named_is c.args.image.now c.args.insertion.name.now c.args.insertion.table.now c.requires.rules c.requires.fine.there).there
+pub add_to-requires-clause-site : goal.add_to-requires-clause-site
+add_to-requires-clause-site c = record {
+  rules = c.requires.rules;
+  moment = c.requires.moment;
+  there = (named_is c.args.image.now c.args.insertion.name.now c.args.insertion.table.now c.requires.rules c.requires.fine.there).there;
+  on = c.requires.fine.on;
+  home = c.requires.home;
+}
 
 pub add_to-requires-clause-keyed : goal.add_to-requires-clause-keyed
 add_to-requires-clause-keyed c = row_keyed c.args.image.now c.args.insertion c.in-Ok.row c.requires.rules c.requires.fine c.in-Ok.ensures.ok (rw c.as_slice.ensures at (c.in_ok-refusal.ensures.may_stand c.in_default.is))

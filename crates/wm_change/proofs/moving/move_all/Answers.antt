@@ -19,13 +19,13 @@ moved-requires c = λ key. c.in_ok-shifts.ensures key ∙ ap (shifts_of key) c.a
 
 pub returns-in-Some-clause-does : goal.returns-in-Some-clause-does
 returns-in-Some-clause-does c =
-    move_there c.args.image.now c.args.moment c.answered.result c.args.session.now c.args.space.now c.args.table.now c.args.moves.items c.in-Some.key c.in-Some.shared c.latest-version.result c.requires.rules
-    (c.latest-version.ensures ∙ ap (latest (parts_of c.args.image.now)) c.space.ensures)
-    (finds_so (parts_of c.args.image.now) c.latest-version.result c.args.table.now c.as_slice-2.result.now c.args.moves.items c.in_ok-clash.clash (Some (c.in-Some.key, c.in-Some.shared)) c.in_ok-clash.ensures c.as_slice-2.ensures.value c.in-Some.is)
+    move_there c.args.site.image.now c.args.site.moment c.answered.result c.args.site.session.now c.args.site.space.now c.args.site.table.now c.args.moves.items c.in-Some.key c.in-Some.shared c.latest-version.result c.requires.site.rules
+    (c.latest-version.ensures ∙ ap (latest (parts_of c.args.site.image.now)) c.space.ensures)
+    (finds_so (parts_of c.args.site.image.now) c.latest-version.result c.args.site.table.now c.as_slice-2.result.now c.args.moves.items c.in_ok-clash.clash (Some (c.in-Some.key, c.in-Some.shared)) c.in_ok-clash.ensures c.as_slice-2.ensures.value c.in-Some.is)
     c.answered.ensures.edits (ap seating_view c.answered.ensures.seating) (ap answer_view c.answered.ensures.answer ∙ c.key_there.ensures)
 
 pub write_all-requires-clause-fit : goal.write_all-requires-clause-fit
-write_all-requires-clause-fit c = c.in_ok-changes.ensures.all (is_change c.args.table.now) c.requires.fit (λ m part e. part_fits c.args.table.now m part e)
+write_all-requires-clause-fit c = c.in_ok-changes.ensures.all (is_change c.args.site.table.now) c.requires.fit (λ m part e. part_fits c.args.site.table.now m part e)
 
 pub write_all-requires-clause-last : goal.write_all-requires-clause-last
 write_all-requires-clause-last c = c.in_ok-changes.ensures.lasting
@@ -38,13 +38,13 @@ write_all-requires-clause-filled c = c.in_ok-changes.ensures.all is_filled_chang
 
 pub returns-clause-does : goal.returns-clause-does
 returns-clause-does c =
-    let user = c.args.session.now.user in
-    let t = c.args.table.now in
+    let user = c.args.site.session.now.user in
+    let t = c.args.site.table.now in
     let moves = c.args.moves.items in
     let count = c.len-count.result in
-    move_new c.args.image.now c.args.moment c.write_all.result c.args.session.now c.args.space.now t moves c.latest-version.result (c.latest-version.ensures ∙ ap (latest (parts_of c.args.image.now)) c.space.ensures)
-    (finds_so (parts_of c.args.image.now) c.latest-version.result t c.as_slice-2.result.now moves c.in_ok-clash.clash None c.in_ok-clash.ensures c.as_slice-2.ensures.value c.in_default.is)
-    (does_so c.args.image.now c.args.moment c.write_all.result c.args.session.now c.args.space.now (write_ascending user t count c.in_ok-changes.changes.items) (write_ascending user t (length moves) (moving moves))
+    move_new c.args.site.image.now c.args.site.moment c.write_all.result c.args.site.session.now c.args.site.space.now t moves c.latest-version.result (c.latest-version.ensures ∙ ap (latest (parts_of c.args.site.image.now)) c.space.ensures)
+    (finds_so (parts_of c.args.site.image.now) c.latest-version.result t c.as_slice-2.result.now moves c.in_ok-clash.clash None c.in_ok-clash.ensures c.as_slice-2.ensures.value c.in_default.is)
+    (does_so c.args.site.image.now c.args.site.moment c.write_all.result c.args.site.session.now c.args.site.space.now (write_ascending user t count c.in_ok-changes.changes.items) (write_ascending user t (length moves) (moving moves))
     (λ s w.
     ap (λ n. write_ascending user t n (moving moves) s w) (sym (counted_moves c.args.moves count c.len-count.ensures))
     ∙ ap (λ xs. write_ascending user t count xs s w) (sym c.in_ok-changes.ensures.exact)) c.write_all.ensures.does)

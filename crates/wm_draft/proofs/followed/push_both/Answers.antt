@@ -22,8 +22,8 @@ both_behind taken none old front all changes first later last ids nothing begins
     ∙ ap (λ xs. old ++ filter (λ (c : Change). not (list_any (is_change_of c.id) later)) changes ++ xs) (all_stay none last nothing ∙ ends)
     ∙ append_assoc old (filter (λ (c : Change). not (list_any (is_change_of c.id) later)) changes) later
 
-pub returns-in-Ok-said : goal.returns-in-Ok-said
-returns-in-Ok-said c =
+pub returns-in-Ok-pushed : goal.returns-in-Ok-pushed
+returns-in-Ok-pushed c =
     on_ok_weaker c.push_others.result
-    (both_behind (contains nat_cmp c.in-Ok.ids) (contains nat_cmp c.new.result) _ _ _ _ _ _ _ (λ id. c.in-Ok.ensures id ∙ ap (λ cs. list_any (is_change_of id) cs) c.as_slice.ensures) (λ id. ap (list_any (is_at (nat_cmp id))) c.new.ensures.empty) c.into_vec.ensures c.into_vec-in-Ok-said.ensures c.in-Ok-said.ensures)
+    (both_behind (contains nat_cmp c.in-Ok.ids) (contains nat_cmp c.new.result) _ _ _ _ _ _ _ (λ id. c.in-Ok.ensures id ∙ ap (λ cs. list_any (is_change_of id) cs) c.as_slice.ensures) (λ id. ap (list_any (is_at (nat_cmp id))) c.new.ensures.empty) c.into_vec.ensures c.into_vec-in-Ok-pushed.ensures c.in-Ok-pushed.ensures)
     c.push_others.ensures

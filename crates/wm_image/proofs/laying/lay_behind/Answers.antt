@@ -1,11 +1,12 @@
 use Rattle.std.proofs.Common.{cond, ◌++◌, ◌∷◌, [], sym, ap, ◌∙◌, subst}
 use Rattle.std.specs.Option.{option_or}
-use Rattle.wm_image.proofs.Along.{held-behind, or_none}
+use Rattle.wm_base.proofs.Plain.{option_or-none}
+use Rattle.wm_image.proofs.Along.{held-behind}
 use Rattle.wm_period.specs.Pieces.{EndBy, held_at}
 use Rattle.wm_image.proofs.laying.lay_behind.Goals as goal
 
 pub returns-in_default-clause-laid : goal.returns-in_default-clause-laid
-returns-in_default-clause-laid c = λ done t less. or_none (held_at c.args.run.now t) ∙ ap (option_or (held_at c.args.run.now t)) (c.in_default.ensures t less)
+returns-in_default-clause-laid c = λ done t less. sym (option_or-none (held_at c.args.run.now t)) ∙ ap (option_or (held_at c.args.run.now t)) (c.in_default.ensures t less)
 
 pub returns-clause-laid : goal.returns-clause-laid
 returns-clause-laid c = λ done t less.

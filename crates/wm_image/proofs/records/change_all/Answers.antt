@@ -1,5 +1,5 @@
 use Rattle.std.proofs.Common.{sym, ap, ◌∙◌}
-use Rattle.wm_state.proofs.Tests.{either_false}
+use Rattle.std.proofs.lemmas.Bool.{or_parts}
 use Rattle.wm_image.proofs.Listed.{applied-push}
 use Rattle.wm_index.specs.Indexed.{listed}
 use Rattle.wm_state.specs.ById.{set_at}
@@ -13,6 +13,6 @@ loop-one-preserved c = record {
       ∙ sym (applied-push c.loop-one.yielded c.in-Some.one (listed c.args.kept.now.entries));
   hops = c.in_ok-changed.ensures.hops;
   tables = λ neither.
-      let h = either_false c.in_ok-changed.changed c.loop-one.touched (sym c.is_either-touched.ensures ∙ neither) in
+      let h = or_parts c.in_ok-changed.changed c.loop-one.touched (sym c.is_either-touched.ensures ∙ neither) in
       c.in_ok-changed.ensures.tables h.0 ∙ c.loop-one.invariant.tables h.1;
 }

@@ -22,4 +22,4 @@ returns-clause-drafts c =
     (restoring_is c.id_of_counters-counters_id.result c.unwrap-space_id.result c.in_ok-id.id c.versioned-counted.result (versioned c.counters-counters.result c.args.moment c.args.work) c.in_ok-new.new
     (restored_to c.unwrap-savepoint.result.now c.unwrap-old.result.now) c.in_ok-dropped.dropped.items c.as_slice.result.now
     (record { number = c.counters-counters.result.next_version; space = c.args.space; parent = c.unwrap-savepoint.result.now.version }) (record { number = c.counters-counters.result.next_version; space = c.args.space; parent = c.unwrap-savepoint.result.now.version })
-    c.in_ok-changes.changes c.drop_all-said.new.changes c.push.new.self c.put.result c.versioned-counted.ensures c.in_ok-new.ensures c.as_slice.ensures.value refl c.in_ok-changes.ensures c.in_ok-said.ensures c.put.ensures c.in_ok-push.ensures.ok)
+    c.in_ok-changes.changes c.drop_all-pushed.new.changes c.push.new.self c.put.result c.versioned-counted.ensures c.in_ok-new.ensures c.as_slice.ensures.value refl c.in_ok-changes.ensures c.in_ok-pushed.ensures c.put.ensures c.in_ok-push.ensures.ok)

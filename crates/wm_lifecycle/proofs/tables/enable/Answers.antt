@@ -1,4 +1,5 @@
 use Rattle.std.proofs.Common.{◌≡◌, true, false, [], ◌∷◌, Some, sym, ap, subst, ◌∙◌}
+use Rattle.std.proofs.lemmas.Option.{same_Some}
 use Rattle.wm_graph.specs.Parts.{parts_of}
 use Rattle.wm_graph.specs.Rules.{has_key}
 use Rattle.wm_spec.specs.Records.{record_at}
@@ -14,9 +15,6 @@ use Rattle.wm_state.specs.declared.edit.Edit.TheVariants as edits
 use Rattle.wm_changes.proofs.Placed.{counters_at, looked_up, table_at}
 use Rattle.wm_lifecycle.proofs.tables.enable.Goals as goal
 
-one_table : (t u : Table) → Some t ≡ Some u → t ≡ u
-one_table t u e = cc
-
 -- the table is that of the name
 named : (c : goal.In_ok-changes) → table_named c.args.name.now (by_number (parts_of c.args.image.now).tables) ≡ Some c.unwrap-table.result.now
 named c =
@@ -24,7 +22,7 @@ named c =
     ∙ looked_up c.table.result c.unwrap-table.result (table_named c.as_bytes.result.now (by_number (parts_of c.args.image.now).tables)) c.unwrap-table.ensures c.table.ensures
 
 same : (c : goal.In_ok-changes) → c.unwrap-table.result.now ≡ c.requires.can.table
-same c = one_table c.unwrap-table.result.now c.requires.can.table (sym (named c) ∙ c.requires.can.named)
+same c = same_Some c.unwrap-table.result.now c.requires.can.table (sym (named c) ∙ c.requires.can.named)
 
 off : (c : goal.In_ok-changes) → c.unwrap-table.result.now.versioned ≡ false
 off c = ap (λ (t : Table). t.versioned) (same c) ∙ c.requires.can.off

@@ -6,5 +6,5 @@ use Rattle.wm_pending.proofs.clash.push_conflicts.Goals as goal
 pub returns : goal.returns
 returns c =
     let table : c.args.own.now.table ≡ c.args.table = omega (arith, c.if-own-table.false) in
-    told_block (parts_of c.args.image.now) c.args.asked c.args.own.now c.in_ok-sides.sides c.args.table c.args.found.now.items c.push_stretches-said.new.found.items table c.in_ok-sides.ensures
-    c.in_ok-said.ensures
+    told_block (parts_of c.args.image.now) c.args.asked c.args.own.now c.in_ok-sides.sides c.args.table c.args.found.now.items c.push_stretches-pushed.new.found.items table c.in_ok-sides.ensures
+    c.in_ok-pushed.ensures

@@ -27,7 +27,7 @@ loop-table-preserved c =
     let k : OwnKey = c.in_ok-gain.gain in
     let s = c.of-since.result in
     let version = c.latest-version.result in
-    let after = map entry_of c.push_entries-said.new.entries.items in
+    let after = map entry_of c.push_entries-pushed.new.entries.items in
     let place : (k.table, k.key) ≡ (c.in-Some.table, c.in-Some.key) = λ i. (c.in_ok-gain.ensures.table i, c.in_ok-gain.ensures.key i) in
     let group : group_own k ≡ group_in (c.in-Some.table, c.in-Some.key) = λ i. record { table = c.in_ok-gain.ensures.table i; key = c.in_ok-gain.ensures.key i } in
     subst
@@ -38,7 +38,7 @@ loop-table-preserved c =
     c.in_ok-gain.ensures.holds t less
     ∙ ap (λ (ps : List Piece). gain (held_at ps t) (is_touched p.touches s (cell (group_own k) t)) (seen p version (cell (group_own k) t)))
     (c.own_on-others.ensures ∙ ap (λ (g : Group). pieces_on g c.args.own.now) (sym group))))
-    c.in_ok-said.ensures)
+    c.in_ok-pushed.ensures)
 
 pub returns : goal.returns
 returns c =

@@ -14,7 +14,7 @@ pub returns : goal.returns
 returns c = λ t less.
     let old : Option Held = held_at c.args.pieces.now t in
     let at : Cell = record { table = c.args.table; key = c.args.key.now; time = t } in
-    c.in_ok-said.ensures t
+    c.in_ok-erased.ensures t
     ∙ ap (λ (ps : List Piece). cond (is_some (held_at ps t)) None old) c.list.ensures.value
     ∙ ap (λ (b : Bool). cond b None old) (c.in_ok-quiet.ensures t less)
     ∙ turned (is_touched (parts_of c.args.image.now).touches c.args.since at) old

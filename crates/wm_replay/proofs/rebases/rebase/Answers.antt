@@ -34,10 +34,10 @@ returns-clause-drafts c =
     let k = known c.args.image.now c.args.space c.space.result c.unwrap-old.result c.requires.rules c.unwrap-old.ensures c.space.ensures in
     let spaces = (parts_of c.args.image.now).spaces in
     drafts_rebasing c.args.image.now c.args.moment c.args.work c.args.space c.latest-base_version.result c.in_ok-id.id c.args.emptied c.unwrap-old.result.now c.unwrap-parent.result.now c.in_ok-new.new c.counters-before.result c.versioned-counters.result
-    c.new.result c.in_ok-changes.changes (map key_pieces c.in_ok-own.own.items) c.in_ok-dropped.dropped.items c.in_ok-news.news.items c.push_keys-said.new.news.items c.requires.rules c.requires.work c.requires.can k.found
+    c.new.result c.in_ok-changes.changes (map key_pieces c.in_ok-own.own.items) c.in_ok-dropped.dropped.items c.in_ok-news.news.items c.push_keys-pushed.new.news.items c.requires.rules c.requires.work c.requires.can k.found
     (looked_up c.space-2.result c.unwrap-parent.result (space_of spaces c.unwrap-old.result.now.parent) c.unwrap-parent.ensures c.space-2.ensures) c.counters-before.ensures c.in_ok-id.ensures.above c.in_ok-own.ensures
     c.latest-base_version.ensures c.in_ok-news.ensures
-    (c.in_ok-said.ensures
+    (c.in_ok-pushed.ensures
     ∙ ap (λ (own : List OwnKey). c.in_ok-news.news.items ++ map records.Piece (pieces_for c.counters-before.result.next_version (map key_pieces own))) c.as_slice.ensures.value)
     c.versioned-counters.ensures c.in_ok-new.ensures c.new.ensures c.in_ok-dropped.ensures c.in_ok-changes.ensures
 
@@ -45,8 +45,8 @@ pub returns-clause-costs : goal.returns-clause-costs
 returns-clause-costs c =
     let k = known c.args.image.now c.args.space c.space.result c.unwrap-old.result c.requires.rules c.unwrap-old.ensures c.space.ensures in
     rebase_costs c.args.image.now c.args.moment c.args.work c.latest-base_version.result c.in_ok-id.id c.unwrap-old.result.now c.unwrap-parent.result.now c.in_ok-new.new c.counters-before.result c.versioned-counters.result c.new.result
-    c.in_ok-changes.changes (map key_pieces c.in_ok-own.own.items) c.in_ok-dropped.dropped.items c.in_ok-news.news.items c.push_keys-said.new.news.items c.args.space c.args.emptied c.requires.rules k.found c.counters-before.ensures c.in_ok-id.ensures.above
+    c.in_ok-changes.changes (map key_pieces c.in_ok-own.own.items) c.in_ok-dropped.dropped.items c.in_ok-news.news.items c.push_keys-pushed.new.news.items c.args.space c.args.emptied c.requires.rules k.found c.counters-before.ensures c.in_ok-id.ensures.above
     c.latest-base_version.ensures c.in_ok-news.ensures
-    (c.in_ok-said.ensures
+    (c.in_ok-pushed.ensures
     ∙ ap (λ (own : List OwnKey). c.in_ok-news.news.items ++ map records.Piece (pieces_for c.counters-before.result.next_version (map key_pieces own))) c.as_slice.ensures.value)
     c.versioned-counters.ensures c.in_ok-new.ensures c.new.ensures c.in_ok-dropped.ensures c.in_ok-changes.ensures

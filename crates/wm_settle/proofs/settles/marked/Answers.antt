@@ -17,6 +17,6 @@ returns c =
       one = r.one;
       counters_at = counters_at r.counters (parts_of c.args.image.now).counters (record_at c.args.image.now c.id_of_counters.result) r.one c.id_of_counters.ensures.there;
       sorted = c.id_of_counters.ensures.ascend;
-      are = put_first c.new-changes.result c.push.new.self c.drop_all-said.new.changes c.put_all.new.changes (put_all c.args.id c.args.made.news.items) c.put.result (put c.id_of_counters.result (records.Counters c.args.counters))
-          c.as_slice.result.now c.args.made.dropped.items c.new-changes.ensures c.in_ok-push.ensures.ok c.put.ensures c.in_ok-said.ensures c.as_slice.ensures.value c.in_ok-put_all.ensures;
+      are = put_first c.new-changes.result c.push.new.self c.drop_all-pushed.new.changes c.put_all.new.changes (put_all c.args.id c.args.made.news.items) c.put.result (put c.id_of_counters.result (records.Counters c.args.counters))
+          c.as_slice.result.now c.args.made.dropped.items c.new-changes.ensures c.in_ok-push.ensures.ok c.put.ensures c.in_ok-pushed.ensures c.as_slice.ensures.value c.in_ok-put_all.ensures;
     }

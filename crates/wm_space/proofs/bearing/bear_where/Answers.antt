@@ -1,4 +1,5 @@
 use Rattle.std.proofs.Common.{nat_lt, [], sym, ap, ◌∙◌, codes}
+use Rattle.wm_base.proofs.Plain.{none_since}
 use Rattle.wm_graph.specs.Parts.{parts_of}
 use Rattle.wm_model.proofs.BearingLine.{bear_placeless, bear_nameless, bear_numberless, does_standless}
 use Rattle.wm_model.specs.Planning.{Stay}
@@ -6,7 +7,7 @@ use Rattle.wm_model.specs.Step.{create_workspace, at_its_end, not_built, number_
 use Rattle.wm_state.specs.Editing.{stand_of}
 use Rattle.wm_state.specs.Points.{next_place_at, point_at}
 use Rattle.wm_state.specs.Standing.{space_after}
-use Rattle.wm_space.proofs.BirthPlans.{may_bear_in, number_end, number_left, none_of, bears_as}
+use Rattle.wm_space.proofs.BirthPlans.{may_bear_in, number_end, number_left, bears_as}
 use Rattle.wm_space.proofs.Ended.{told_ended}
 use Rattle.wm_plan.proofs.Planning.{told}
 use Rattle.wm_plan.specs.Views.{answer_view, seating_view}
@@ -46,7 +47,7 @@ returns-then-not-is_there-clause-does c = λ xs among.
     (ap seating_view c.answered.ensures.seating) (ap answer_view c.answered.ensures.answer ∙ c.not_built.ensures)
     (does_standless c.args.image.now xs c.args.moment c.args.session.now c.args.space.now not_built (create_workspace c.args.session.now c.args.name) among c.requires.roomy.bears.found
     (ap (point_at (parts_of c.args.image.now) c.args.space.now c.args.moment) (sym stands)
-    ∙ none_of (point_at (parts_of c.args.image.now) c.args.space.now c.args.moment (stand_of c.place_of-at.result)) (sym (c.if-not-is_there.ensures c.args.moment))))
+    ∙ none_since (point_at (parts_of c.args.image.now) c.args.space.now c.args.moment (stand_of c.place_of-at.result)) (sym (c.if-not-is_there.ensures c.args.moment))))
 
 pub bear-requires-clause-there : goal.bear-requires-clause-there
 bear-requires-clause-there c = sym (c.if-not-is_there.ensures c.args.moment)

@@ -1,5 +1,6 @@
-use Rattle.std.proofs.Common.{◌≡◌, ℕ, ◌<◌, ◌≤◌, ◌||◌, nat_le, nat_lt, Bool, true, false, List, length, refl, sym, ◌∙◌, arith}
+use Rattle.std.proofs.Common.{◌≡◌, ℕ, ◌<◌, ◌≤◌, nat_le, nat_lt, true, false, List, length, refl, sym, ◌∙◌, arith}
 use Rattle.std.proofs.lemmas.Bool.Decides.{nat_tests}
+use Rattle.std.proofs.lemmas.Bool.{or_from, or_right}
 use Rattle.wm_graph.specs.Parts.{parts_of}
 use Rattle.wm_model.specs.Step.{is_full}
 use Rattle.wm_spec.specs.declared.record.table.Table.{Table}
@@ -8,13 +9,6 @@ use Rattle.wm_state.specs.Standing.{by_number}
 use Rattle.wm_state.specs.State.{next_table}
 use Rattle.wm_space.proofs.create.next_number.Goals.{then-table_count-ge-TABLE_LIMIT-via-then-table_count-ge-TABLE_LIMIT, then-table_count-ge-TABLE_LIMIT-via-else-table_count-ge-TABLE_LIMIT+then-next-from}
 use Rattle.wm_space.proofs.create.next_number.Goals as goal
-
-either : (a b : Bool) → b ≡ true → (a || b) ≡ true
-either true b e = refl
-either false b e = e
-
-neither : (a b : Bool) → a ≡ false → b ≡ false → (a || b) ≡ false
-neither a b e f = rw (e, f) refl
 
 -- there are as many tables as there may be
 many : (ts : List Table) (n : ℕ) → n ≡ length ts → 256 ≤ n → is_full (by_number ts) ≡ true
@@ -25,7 +19,7 @@ many ts n is le = rw (at_least (length (by_number ts)) n (is ∙ sym (by_number-
 
 -- the number that comes next is too great
 high : (ts : List Table) (n limit : ℕ) → n ≡ next_table (by_number ts) → limit ≡ 65535 → limit < n → is_full (by_number ts) ≡ true
-high ts n limit is most lt = either (nat_le 256 (length (by_number ts))) (nat_lt 65535 (next_table (by_number ts))) (above (next_table (by_number ts)) n limit is most lt)
+high ts n limit is most lt = or_right (nat_le 256 (length (by_number ts))) (nat_lt 65535 (next_table (by_number ts))) (above (next_table (by_number ts)) n limit is most lt)
   where
     above : (k n limit : ℕ) → n ≡ k → limit ≡ 65535 → limit < n → nat_lt 65535 k ≡ true
     above k n limit is most lt = grind (arith, nat_tests, is, most, lt)
@@ -33,7 +27,7 @@ high ts n limit is most lt = either (nat_le 256 (length (by_number ts))) (nat_lt
 -- neither is so
 few : (ts : List Table) (l n limit : ℕ) → l ≡ length ts → n ≡ next_table (by_number ts) → limit ≡ 65535 → l < 256 → n ≤ limit → is_full (by_number ts) ≡ false
 few ts l n limit count is most lt le =
-    neither (nat_le 256 (length (by_number ts))) (nat_lt 65535 (next_table (by_number ts))) (below (length (by_number ts)) l (count ∙ sym (by_number-length ts)) lt) (in_range (next_table (by_number ts)) n limit is most le)
+    or_from (nat_le 256 (length (by_number ts))) (nat_lt 65535 (next_table (by_number ts))) (below (length (by_number ts)) l (count ∙ sym (by_number-length ts)) lt) (in_range (next_table (by_number ts)) n limit is most le)
   where
     below : (k l : ℕ) → l ≡ k → l < 256 → nat_le 256 k ≡ false
     below k l is lt = grind (arith, nat_tests, is, lt)

@@ -39,10 +39,10 @@ returns c =
     let r = ruled p c.requires.rules in
     let asked = appends_so p c.args.space.now r.counters c.args.entries.items c.index.result.now c.requires.there c.requires.can r.one c.index.ensures in
     made_so c.args.image.now c.args.space.now c.args.version (c.args.space.now.next_place - 1) c.index.result.now.table r.counters.next_stamp (map entry_of c.args.entries.items) c.has_history.result c.in_ok-pieces.pieces.dropped.items
-    c.in_ok-touches.touches.dropped.items c.extend_from_slice-said.new.self.items c.in_ok-pieces.pieces.drawn.items c.in_ok-touches.touches.drawn.items c.in_ok-entered.entered.rows.items c.in_ok-entered.entered.hists.items c.push_pieces.new.news.items
+    c.in_ok-touches.touches.dropped.items c.extend_from_slice-extended.new.self.items c.in_ok-pieces.pieces.drawn.items c.in_ok-touches.touches.drawn.items c.in_ok-entered.entered.rows.items c.in_ok-entered.entered.hists.items c.push_pieces.new.news.items
     (c.push_pieces.new.news.items ++ map records.Touch (map (trace_at c.args.space.now.number (c.args.space.now.next_place - 1)) c.in_ok-touches.touches.drawn.items)) c.push_traced.new.news.items (last_place c.args.space.now.next_place (c.args.space.now.next_place - 1) (some_place p c.args.space.now.number c.args.space.now c.requires.rules c.requires.there) refl) asked.stamped
     (sym c.has_history.ensures)
     (subst (λ (news : List PieceRecord). IsRedrawn as_piece c.args.image.now news c.in_ok-pieces.pieces.dropped.items c.in_ok-pieces.pieces.drawn.items) c.in_ok-entered.ensures.pieces c.in_ok-pieces.ensures.redrawn)
     (subst (λ (news : List PieceRecord). IsRedrawn (touch_in c.args.space.now.number) c.args.image.now news c.in_ok-touches.touches.dropped.items c.in_ok-touches.touches.drawn.items) c.in_ok-entered.ensures.marks c.in_ok-touches.ensures.redrawn)
-    (c.in_ok-said.ensures.items ∙ ap (λ (ids : List ℕ). c.in_ok-pieces.pieces.dropped.items ++ ids) c.as_slice.ensures.value) c.in_ok-entered.ensures.rows c.in_ok-entered.ensures.hists c.in_ok-push_pieces.ensures
+    (c.in_ok-extended.ensures.items ∙ ap (λ (ids : List ℕ). c.in_ok-pieces.pieces.dropped.items ++ ids) c.as_slice.ensures.value) c.in_ok-entered.ensures.rows c.in_ok-entered.ensures.hists c.in_ok-push_pieces.ensures
     refl c.in_ok-push_traced.ensures

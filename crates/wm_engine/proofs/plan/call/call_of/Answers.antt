@@ -1,4 +1,5 @@
 use Rattle.std.proofs.Common.{ℕ, List, Some, IfOk, sym, ap, subst, ◌∙◌}
+use Rattle.std.proofs.lemmas.Option.{same_Some, none-some}
 use Rattle.wm_base.specs.Views.{filter_view}
 use Rattle.wm_grammar.specs.declared.procedure.Procedure.{Procedure}
 use Rattle.wm_grammar.specs.declared.procedure.Procedure.TheVariants as procedures
@@ -9,7 +10,7 @@ use Rattle.wm_plan.specs.Views.{answer_view}
 use Rattle.wm_calls.specs.Arguments.{is_true_given}
 use Rattle.wm_grammar.specs.declared.procedure.Parameter.TheVariants as parameters
 use Rattle.wm_engine.specs.NetLines.{nets_call}
-use Rattle.wm_engine.proofs.NetLines.{merges_alone, no_workspace, one_workspace}
+use Rattle.wm_engine.proofs.NetLines.{merges_alone}
 use Rattle.wm_spending.specs.Nets.{AreNets, Nothing}
 use Rattle.wm_engine.proofs.plan.call.call_of.Goals as goal
 
@@ -104,47 +105,47 @@ returns-in_default c = record {
 -- ---- lines that refresh or merge
 
 pub returns-in-EnableVersioning-clause-nets : goal.returns-in-EnableVersioning-clause-nets
-returns-in-EnableVersioning-clause-nets c = λ workspace named. absurd (no_workspace workspace (ap (λ (p : Procedure). nets_call (Some p) c.args.called.given.args.now) (sym c.in-EnableVersioning.is) ∙ named))
+returns-in-EnableVersioning-clause-nets c = λ workspace named. absurd (none-some workspace (ap (λ (p : Procedure). nets_call (Some p) c.args.called.given.args.now) (sym c.in-EnableVersioning.is) ∙ named))
 
 pub returns-in-CreateWorkspace-clause-nets : goal.returns-in-CreateWorkspace-clause-nets
-returns-in-CreateWorkspace-clause-nets c = λ workspace named. absurd (no_workspace workspace (ap (λ (p : Procedure). nets_call (Some p) c.args.called.given.args.now) (sym c.in-CreateWorkspace.is) ∙ named))
+returns-in-CreateWorkspace-clause-nets c = λ workspace named. absurd (none-some workspace (ap (λ (p : Procedure). nets_call (Some p) c.args.called.given.args.now) (sym c.in-CreateWorkspace.is) ∙ named))
 
 pub returns-in-CreateSavepoint-clause-nets : goal.returns-in-CreateSavepoint-clause-nets
-returns-in-CreateSavepoint-clause-nets c = λ workspace named. absurd (no_workspace workspace (ap (λ (p : Procedure). nets_call (Some p) c.args.called.given.args.now) (sym c.in-CreateSavepoint.is) ∙ named))
+returns-in-CreateSavepoint-clause-nets c = λ workspace named. absurd (none-some workspace (ap (λ (p : Procedure). nets_call (Some p) c.args.called.given.args.now) (sym c.in-CreateSavepoint.is) ∙ named))
 
 pub returns-in-GotoWorkspace-clause-nets : goal.returns-in-GotoWorkspace-clause-nets
-returns-in-GotoWorkspace-clause-nets c = λ workspace named. absurd (no_workspace workspace (ap (λ (p : Procedure). nets_call (Some p) c.args.called.given.args.now) (sym c.in-GotoWorkspace.is) ∙ named))
+returns-in-GotoWorkspace-clause-nets c = λ workspace named. absurd (none-some workspace (ap (λ (p : Procedure). nets_call (Some p) c.args.called.given.args.now) (sym c.in-GotoWorkspace.is) ∙ named))
 
 pub returns-in-GotoSavepoint-clause-nets : goal.returns-in-GotoSavepoint-clause-nets
-returns-in-GotoSavepoint-clause-nets c = λ workspace named. absurd (no_workspace workspace (ap (λ (p : Procedure). nets_call (Some p) c.args.called.given.args.now) (sym c.in-GotoSavepoint.is) ∙ named))
+returns-in-GotoSavepoint-clause-nets c = λ workspace named. absurd (none-some workspace (ap (λ (p : Procedure). nets_call (Some p) c.args.called.given.args.now) (sym c.in-GotoSavepoint.is) ∙ named))
 
 pub returns-in-SetConflictWorkspace-clause-nets : goal.returns-in-SetConflictWorkspace-clause-nets
-returns-in-SetConflictWorkspace-clause-nets c = λ workspace named. absurd (no_workspace workspace (ap (λ (p : Procedure). nets_call (Some p) c.args.called.given.args.now) (sym c.in-SetConflictWorkspace.is) ∙ named))
+returns-in-SetConflictWorkspace-clause-nets c = λ workspace named. absurd (none-some workspace (ap (λ (p : Procedure). nets_call (Some p) c.args.called.given.args.now) (sym c.in-SetConflictWorkspace.is) ∙ named))
 
 pub returns-in-SetValidTime-clause-nets : goal.returns-in-SetValidTime-clause-nets
-returns-in-SetValidTime-clause-nets c = λ workspace named. absurd (no_workspace workspace (ap (λ (p : Procedure). nets_call (Some p) c.args.called.given.args.now) (sym c.in-SetValidTime.is) ∙ named))
+returns-in-SetValidTime-clause-nets c = λ workspace named. absurd (none-some workspace (ap (λ (p : Procedure). nets_call (Some p) c.args.called.given.args.now) (sym c.in-SetValidTime.is) ∙ named))
 
 pub returns-in-RollbackToSp-clause-nets : goal.returns-in-RollbackToSp-clause-nets
-returns-in-RollbackToSp-clause-nets c = λ workspace named. absurd (no_workspace workspace (ap (λ (p : Procedure). nets_call (Some p) c.args.called.given.args.now) (sym c.in-RollbackToSp.is) ∙ named))
+returns-in-RollbackToSp-clause-nets c = λ workspace named. absurd (none-some workspace (ap (λ (p : Procedure). nets_call (Some p) c.args.called.given.args.now) (sym c.in-RollbackToSp.is) ∙ named))
 
 pub returns-in-RemoveWorkspace-clause-nets : goal.returns-in-RemoveWorkspace-clause-nets
-returns-in-RemoveWorkspace-clause-nets c = λ workspace named. absurd (no_workspace workspace (ap (λ (p : Procedure). nets_call (Some p) c.args.called.given.args.now) (sym c.in-RemoveWorkspace.is) ∙ named))
+returns-in-RemoveWorkspace-clause-nets c = λ workspace named. absurd (none-some workspace (ap (λ (p : Procedure). nets_call (Some p) c.args.called.given.args.now) (sym c.in-RemoveWorkspace.is) ∙ named))
 
 pub returns-in-BeginResolve-clause-nets : goal.returns-in-BeginResolve-clause-nets
-returns-in-BeginResolve-clause-nets c = λ workspace named. absurd (no_workspace workspace (ap (λ (p : Procedure). nets_call (Some p) c.args.called.given.args.now) (sym c.in-BeginResolve.is) ∙ named))
+returns-in-BeginResolve-clause-nets c = λ workspace named. absurd (none-some workspace (ap (λ (p : Procedure). nets_call (Some p) c.args.called.given.args.now) (sym c.in-BeginResolve.is) ∙ named))
 
 pub returns-in-ResolveConflicts-clause-nets : goal.returns-in-ResolveConflicts-clause-nets
-returns-in-ResolveConflicts-clause-nets c = λ workspace named. absurd (no_workspace workspace (ap (λ (p : Procedure). nets_call (Some p) c.args.called.given.args.now) (sym c.in-ResolveConflicts.is) ∙ named))
+returns-in-ResolveConflicts-clause-nets c = λ workspace named. absurd (none-some workspace (ap (λ (p : Procedure). nets_call (Some p) c.args.called.given.args.now) (sym c.in-ResolveConflicts.is) ∙ named))
 
 pub returns-in-CommitResolve-clause-nets : goal.returns-in-CommitResolve-clause-nets
-returns-in-CommitResolve-clause-nets c = λ workspace named. absurd (no_workspace workspace (ap (λ (p : Procedure). nets_call (Some p) c.args.called.given.args.now) (sym c.in-CommitResolve.is) ∙ named))
+returns-in-CommitResolve-clause-nets c = λ workspace named. absurd (none-some workspace (ap (λ (p : Procedure). nets_call (Some p) c.args.called.given.args.now) (sym c.in-CommitResolve.is) ∙ named))
 
 pub returns-in-RollbackResolve-clause-nets : goal.returns-in-RollbackResolve-clause-nets
-returns-in-RollbackResolve-clause-nets c = λ workspace named. absurd (no_workspace workspace (ap (λ (p : Procedure). nets_call (Some p) c.args.called.given.args.now) (sym c.in-RollbackResolve.is) ∙ named))
+returns-in-RollbackResolve-clause-nets c = λ workspace named. absurd (none-some workspace (ap (λ (p : Procedure). nets_call (Some p) c.args.called.given.args.now) (sym c.in-RollbackResolve.is) ∙ named))
 
 pub returns-in-RefreshWorkspace-clause-nets : goal.returns-in-RefreshWorkspace-clause-nets
 returns-in-RefreshWorkspace-clause-nets c = λ workspace named.
-    subst (λ (w : List ℕ). IfOk c.refresh_call.result (λ p. AreNets c.args.image.now w p.edits.items)) (one_workspace _ workspace (ap (λ (p : Procedure). nets_call (Some p) c.args.called.given.args.now) (sym c.in-RefreshWorkspace.is) ∙ named))
+    subst (λ (w : List ℕ). IfOk c.refresh_call.result (λ p. AreNets c.args.image.now w p.edits.items)) (same_Some _ workspace (ap (λ (p : Procedure). nets_call (Some p) c.args.called.given.args.now) (sym c.in-RefreshWorkspace.is) ∙ named))
     c.refresh_call.ensures.nets
 
 pub returns-in-MergeWorkspace-clause-nets : goal.returns-in-MergeWorkspace-clause-nets

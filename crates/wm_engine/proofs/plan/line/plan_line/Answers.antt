@@ -1,8 +1,8 @@
 use Rattle.wm_base.specs.Views.{line_view}
+use Rattle.std.proofs.lemmas.Option.{none-some}
 use Rattle.wm_base.specs.declared.tree.line.Line.TheVariants.{Connect, Disconnect}
 use Rattle.wm_model.specs.Step.{run_line}
 use Rattle.wm_plan.proofs.Planning.{timed}
-use Rattle.wm_engine.proofs.NetLines.{no_workspace}
 use Rattle.wm_engine.proofs.plan.line.plan_line.Goals as goal
 
 pub returns-in_ok-planned-in-Connect-clause-does : goal.returns-in_ok-planned-in-Connect-clause-does
@@ -23,10 +23,10 @@ returns-in-At-clause-does c = rw c.in-At.is (c.at_moment.ensures.does c.args.ima
 -- ---- lines that refresh or merge
 
 pub returns-in_ok-planned-in-Connect-clause-nets : goal.returns-in_ok-planned-in-Connect-clause-nets
-returns-in_ok-planned-in-Connect-clause-nets c = rw c.in-Connect.is (λ workspace named. absurd (no_workspace workspace named))
+returns-in_ok-planned-in-Connect-clause-nets c = rw c.in-Connect.is (λ workspace named. absurd (none-some workspace named))
 
 pub returns-in_ok-planned-in-Disconnect-clause-nets : goal.returns-in_ok-planned-in-Disconnect-clause-nets
-returns-in_ok-planned-in-Disconnect-clause-nets c = rw c.in-Disconnect.is (λ workspace named. absurd (no_workspace workspace named))
+returns-in_ok-planned-in-Disconnect-clause-nets c = rw c.in-Disconnect.is (λ workspace named. absurd (none-some workspace named))
 
 pub returns-in-At-clause-nets : goal.returns-in-At-clause-nets
-returns-in-At-clause-nets c = rw c.in-At.is (λ workspace named. absurd (no_workspace workspace named))
+returns-in-At-clause-nets c = rw c.in-At.is (λ workspace named. absurd (none-some workspace named))

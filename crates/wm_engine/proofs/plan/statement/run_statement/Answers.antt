@@ -1,4 +1,5 @@
 use Rattle.std.proofs.Common.{refl, sym, ap, ◌∙◌}
+use Rattle.std.proofs.lemmas.Option.{none-some}
 use Rattle.wm_base.specs.Views.{exprs_view, sets_view, filter_view, query_view, statement_view}
 use Rattle.wm_base.specs.declared.tree.statement.Statement.TheVariants.{Create, Insert, Update, Delete, Select, Call}
 use Rattle.wm_grammar.specs.Calls.{procedure_of}
@@ -7,7 +8,6 @@ use Rattle.wm_calls.proofs.Lasting.{insert_lasts, update_lasts}
 use Rattle.wm_calls.specs.Empty.{has_empty_period}
 use Rattle.wm_engine.proofs.Lasting.{select_lasts}
 use Rattle.wm_plan.proofs.Planning.{does_here, for_open, for_these}
-use Rattle.wm_engine.proofs.NetLines.{no_workspace}
 use Rattle.wm_engine.proofs.plan.statement.run_statement.Goals as goal
 
 pub returns-in-Create-clause-does : goal.returns-in-Create-clause-does
@@ -65,19 +65,19 @@ select-requires-clause-lasting c = λ none. select_lasts (query_view c.in-Select
 -- ---- lines that refresh or merge
 
 pub returns-in-Create-clause-nets : goal.returns-in-Create-clause-nets
-returns-in-Create-clause-nets c = rw c.in-Create.is (λ workspace named. absurd (no_workspace workspace named))
+returns-in-Create-clause-nets c = rw c.in-Create.is (λ workspace named. absurd (none-some workspace named))
 
 pub returns-in-Insert-clause-nets : goal.returns-in-Insert-clause-nets
-returns-in-Insert-clause-nets c = rw c.in-Insert.is (λ workspace named. absurd (no_workspace workspace named))
+returns-in-Insert-clause-nets c = rw c.in-Insert.is (λ workspace named. absurd (none-some workspace named))
 
 pub returns-in-Update-clause-nets : goal.returns-in-Update-clause-nets
-returns-in-Update-clause-nets c = rw c.in-Update.is (λ workspace named. absurd (no_workspace workspace named))
+returns-in-Update-clause-nets c = rw c.in-Update.is (λ workspace named. absurd (none-some workspace named))
 
 pub returns-in-Delete-clause-nets : goal.returns-in-Delete-clause-nets
-returns-in-Delete-clause-nets c = rw c.in-Delete.is (λ workspace named. absurd (no_workspace workspace named))
+returns-in-Delete-clause-nets c = rw c.in-Delete.is (λ workspace named. absurd (none-some workspace named))
 
 pub returns-in-Select-clause-nets : goal.returns-in-Select-clause-nets
-returns-in-Select-clause-nets c = rw c.in-Select.is (λ workspace named. absurd (no_workspace workspace named))
+returns-in-Select-clause-nets c = rw c.in-Select.is (λ workspace named. absurd (none-some workspace named))
 
 pub returns-in-Call-clause-nets : goal.returns-in-Call-clause-nets
 returns-in-Call-clause-nets c =
