@@ -110,8 +110,7 @@ fn item_values(
     ensures ok { IfOk result (λ values. all_there (map (λ (o : OutTree). item_value o.item columns.now group.now) (outs_view outs.now)) ≡ Some values.items) }
     ensures out_of_range { IsErrOf result ValueFault.OutOfRange → all_there (map (λ (o : OutTree). item_value o.item columns.now group.now) (outs_view outs.now)) ≡ None }
 {
-    let mut values =
-        Vec::with_capacity(alloc, outs.len()).map_err(|_| ValueFault::Memory)?;
+    let mut values = Vec::with_capacity(alloc, outs.len()).map_err(|_| ValueFault::Memory)?;
     for out in outs {
         let value = item_value(alloc, &out.item, columns, group)?;
         values.push(value).map_err(|_| ValueFault::Memory)?;

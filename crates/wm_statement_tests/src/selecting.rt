@@ -71,10 +71,7 @@ fn found_where(
     requires condition { cond_view cond.now ≡ where_is (filter_view query.now.filter) }
     requires columns { columns.now ≡ all_columns tables }
 {
-    if typed(cond, columns)
-        && rows_fit(&tables)
-        && matches!(query.projection, Projection::All)
-    {
+    if typed(cond, columns) && rows_fit(&tables) && matches!(query.projection, Projection::All) {
         found_by(alloc, query, tables, cond, columns, |row: &Row| {
             calls.set(calls.get().saturating_add(1));
             truth(cond, columns, row)
