@@ -36,7 +36,7 @@ pub fn commit<P: Station>(
     ensures nothing { P.tells → batch.now.changes ≡ [] → P.history station.new ≡ P.history station.old }
     // Nor where each change says what the records are already.
     ensures still { P.tells → (rs : List Stored) → KeepsOver store.old rs (P.history station.old) → ChangesOnly [] rs batch.now.changes → P.history station.new ≡ P.history station.old }
-    // At most two pages for each record that is other than it was, and two more, are other than they were.
+    // Of the pages behind page 0, at most two for each record that is other than it was, and two more, are other than they were.
     ensures pages { P.tells → (rs : List Stored) → KeepsOver store.old rs (P.history station.old) → (ids : List ℕ) → ChangesOnly ids rs batch.now.changes → OnOk result (ChangesPages store.new (2 * length ids + 2) (now (P.history station.old)) (now (P.history station.new))) }
     ensures same_store { batch.now.changes ≡ [] → OnOk result (store.new ≡ store.old) }
     ensures later { P.disk_faults station.old ≤ P.disk_faults station.new }

@@ -166,7 +166,8 @@ impl Engine {
         ensures few { is_fork (parsed line.now) ≡ true → OnOk result (ChangesFew self.old.records self.new.records) }
         // Such a line leaves the pages of the file as they were but for 14 at most, and page 0.
         ensures few_pages { P.tells → is_fork (parsed line.now) ≡ true → OnOk result (ChangesPages self.new.store 14 (now (P.history station.old)) (now (P.history station.new))) }
-        // At most two pages for each record that the line changes, and two more, are other than they were, page 0 aside.
+        // Of the pages behind page 0 that the store then has, at most two for each record that the line changes, and two more, are other
+        // than they were.
         ensures pages { P.tells → (n : ℕ) → OnOk result (ChangesAtMost n self.old.records self.new.records → ChangesPages self.new.store (2 * n + 2) (now (P.history station.old)) (now (P.history station.new))) }
         // A line that changes no record writes nothing, and syncs nothing.
         ensures still { P.tells → OnOk result (ChangesAtMost 0 self.old.records self.new.records → P.history station.new ≡ P.history station.old) }

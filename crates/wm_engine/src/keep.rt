@@ -66,7 +66,7 @@ fn write<P: Station>(
     ensures any_moment { P.tells → Ended (P.history station.old) (P.history station.new) (λ file. HoldsSorted file image.old ⊎ HoldsDrafted file image.old moment edits.items) }
     // Where nothing changes the file is not touched.
     ensures nothing { P.tells → edits.items ≡ [] → P.history station.new ≡ P.history station.old }
-    // At most two pages for each record that changes, and two more, are other than they were.
+    // Of the pages behind page 0, at most two for each record that changes, and two more, are other than they were.
     ensures pages { P.tells → (n : ℕ) → OnOk result (ChangesAtMost n image.old image.new → ChangesPages store.new (2 * n + 2) (now (P.history station.old)) (now (P.history station.new))) }
     // Where no record changes the file is not touched.
     ensures still { P.tells → OnOk result (ChangesAtMost 0 image.old image.new → P.history station.new ≡ P.history station.old) }
@@ -111,7 +111,7 @@ fn keep<P: Station>(
     ensures any_moment { P.tells → Ended (P.history station.old) (P.history station.new) (λ file. HoldsSorted file image.old ⊎ HoldsDrafted file image.old moment changed.edits.items) }
     // Where nothing changes the file is not touched.
     ensures nothing { P.tells → changed.edits.items ≡ [] → P.history station.new ≡ P.history station.old }
-    // At most two pages for each record that changes, and two more, are other than they were.
+    // Of the pages behind page 0, at most two for each record that changes, and two more, are other than they were.
     ensures pages { P.tells → (n : ℕ) → OnOk result (ChangesAtMost n image.old image.new → ChangesPages store.new (2 * n + 2) (now (P.history station.old)) (now (P.history station.new))) }
     // Where no record changes the file is not touched.
     ensures still { P.tells → OnOk result (ChangesAtMost 0 image.old image.new → P.history station.new ≡ P.history station.old) }
@@ -159,7 +159,7 @@ pub fn run_line<P: Station>(
     ensures moment { IfOk result (λ k. k.moment < END) }
     ensures few { is_fork (parsed line.now) ≡ true → OnOk result (ChangesFew image.old image.new) }
     ensures few_pages { P.tells → is_fork (parsed line.now) ≡ true → OnOk result (ChangesPages store.new 14 (now (P.history station.old)) (now (P.history station.new))) }
-    // At most two pages for each record that the line changes, and two more, are other than they were.
+    // Of the pages behind page 0, at most two for each record that the line changes, and two more, are other than they were.
     ensures pages { P.tells → (n : ℕ) → OnOk result (ChangesAtMost n image.old image.new → ChangesPages store.new (2 * n + 2) (now (P.history station.old)) (now (P.history station.new))) }
     // Where no record changes the file is not touched.
     ensures still { P.tells → OnOk result (ChangesAtMost 0 image.old image.new → P.history station.new ≡ P.history station.old) }

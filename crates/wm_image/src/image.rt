@@ -371,7 +371,7 @@ impl Image {
         versions_of_key(&self.index.pieces, table, key)
     }
 
-    /// What versions have of the pieces of a table, by key; None where it has no pieces.
+    /// What versions have of the pieces of a table, by key; None where it never had one.
     pub(crate) fn keys_of(&self, table: u16) -> Option<&KeyVersions>
         ensures { AreKeysOf self.now table (unwrap_or (option_map (λ keys. keys.entries) (option_copied result)) []) }
     {

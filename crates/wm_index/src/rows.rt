@@ -94,7 +94,7 @@ pub fn add_row(alloc: Global, rows: &mut RowIds, stamp: u64, id: u64) -> Result<
     }
 }
 
-/// Takes the only id from under a stamp.
+/// Takes the only id from under a stamp. A list of several may stand there that has none left: it goes too.
 fn drop_only(rows: &mut RowIds, stamp: u64, id: u64)
     requires { value_at rows.old.one.entries stamp ≡ Some id }
     ensures { (q : ℕ) → row_ids rows.new q ≡ (if stamp == q then without id (row_ids rows.old q) else row_ids rows.old q) }

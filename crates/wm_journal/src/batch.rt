@@ -31,7 +31,7 @@ pub(crate) fn journal_bytes(alloc: Global, pages: &[PageWrite]) -> Result<Vec<u8
     Ok(bytes)
 }
 
-// Puts zeros behind the bytes, fewer than a page has, until they are so many.
+// Puts zeros behind the bytes, a page at most, until they are so many.
 fn put_zeros(bytes: &mut Vec<u8>, count: usize) -> Result<(), AllocError>
     requires short { vec_len bytes.old ≤ count }
     requires near { count ≤ vec_len bytes.old + 4096 }

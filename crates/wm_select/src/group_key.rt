@@ -11,8 +11,8 @@ use std::cmp::Ordering;
 use std::marker::Model;
 use wm_base::Values;
 
-/// The values that the rows of a group have at the columns of GROUP BY, in the order of groups: from left to right, each
-/// ascending.
+/// The values that the rows of a group have at the columns of GROUP BY, in the order of groups: from left to right,
+/// each ascending.
 #[derive(Drop)]
 pub struct GroupKey {
     values: Values,
@@ -35,6 +35,7 @@ impl GroupKey {
         GroupKey { values }
     }
 
+    /// How two groups stand to one another.
     fn compare(&self, other: &GroupKey) -> Ordering
         ensures { result ≡ left_to_right self.now other.now }
     {

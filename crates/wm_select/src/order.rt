@@ -21,7 +21,7 @@ fn ascending(one: &Value, other: &Value) -> Ordering
     ensures { result ≡ ascending one.now other.now }
 {
     match (one, other) {
-        // What most columns hold is not asked for its place.
+        // Numbers, which most columns hold, are compared at once: neither is NULL.
         (Value::Num(m), Value::Num(n)) => m.cmp(n),
         _ => null_place(one)
             .cmp(&null_place(other))

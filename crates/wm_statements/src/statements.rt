@@ -1,3 +1,4 @@
+//! Statements, read token by token.
 ghost use Rattle.std.specs.Prelude.{◌≡◌, ℕ, ◌≤◌, ◌∷◌, [], List, IfOk};
 ghost use Rattle.wm_base.specs.Trees.{Expr as ExprTree, Statement as StatementTree};
 ghost use Rattle.wm_base.specs.Views.{expr_view, exprs_view, set_view, sets_view, statement_view, line_view};
