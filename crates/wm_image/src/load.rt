@@ -43,6 +43,8 @@ fn in_order(records: Records) -> Result<Records, Memory>
 {
     let mut list = records.into_vec();
     list.sort_by_key(|one| one.id)?;
+    // They were pushed one by one, and stay until each is put under its id.
+    list.shrink_to_fit();
     Ok(Records::from_vec(list))
 }
 
