@@ -133,8 +133,7 @@ found_permuted ss ts moved are others id = by_found (record_at ss id) refl (reco
 pub ascending_by_id : (ss ts : List Stored) → IsPermutation ss ts → Ascend ts → (ts ≡ by_id ss) × AreRecords ss
 ascending_by_id ss ts moved up =
     let others : AreRecords ts = ascend_differ ts up in
-    let are : AreRecords ss = ids_permuted ss ts moved ∙ others in
-    (
+    let are : AreRecords ss = ids_permuted ss ts moved ∙ others in (
       one_order ts (by_id ss) up (Ascend-by_id ss are) (λ id. sym (found_permuted ss ts moved are others id) ∙ sym (record_at-by_id ss are id)),
       are,
     )

@@ -126,6 +126,6 @@ pub returns-clause-pages : goal.returns-clause-pages
 returns-clause-pages g c = λ t old held ids only. record {
   rewritten = entries c.in_ok-pages.pages.pages;
   few = few_planned (g.P.Station.history c.args.station.now) c.args.self.now.journal c.count-count.result c.args.batch.now.changes c.as_slice.result.now c.in_ok-blobs.blobs c.in_ok-pages.pages.pages old (c.requires.store t).rests
-    c.count-count.ensures.enough c.count-count.ensures.value held.opens c.as_slice.ensures c.in_ok-blobs.ensures.blobs (c.in_ok-pages.ensures.altered t) ids only;
+      c.count-count.ensures.enough c.count-count.ensures.value held.opens c.as_slice.ensures c.in_ok-blobs.ensures.blobs (c.in_ok-pages.ensures.altered t) ids only;
   pages = subst (λ h. (p : ℕ) → 1 ≤ p → p < c.commit.new.self → page (now (g.P.Station.history c.commit.new.station)) p ≡ over (entries c.in_ok-pages.pages.pages) (page (now h)) p) (c.in_ok-pages.ensures.told t) (c.in_ok-commit.ensures.pages t);
 }
