@@ -1,19 +1,21 @@
 -- How many pages are put for the blobs that alter what stands under their ids.
-use Rattle.std.proofs.Common.{◌≡◌, ℕ, zero, suc, ◌+◌, ◌*◌, ◌<◌, ◌≤◌, ◌≢◌, ◌⊎◌, inl, inr, Bool, true, false, cond, ◌||◌, eqb, List, [], ◌∷◌, ◌++◌, length, get_or, take, drop, filter, map, Option, Some, None, is_some, refl, sym, ap, subst, ◌∙◌, arith}
+use Rattle.std.proofs.Common.{◌≡◌, ℕ, zero, suc, ◌+◌, ◌*◌, ◌<◌, ◌≤◌, ◌≢◌, ◌⊎◌, inl, inr, Bool, true, false, cond, ◌||◌, eqb, List, [], ◌∷◌, ◌++◌, length, get_or, take, drop, filter, Option, Some, None, is_some, refl, sym, ap, subst, ◌∙◌, arith}
 use Rattle.std.specs.List.{list_any}
 use Rattle.std.proofs.lemmas.Bool.{eqb-true, or_parts}
 use Rattle.std.proofs.lemmas.List.{drop_more, take_more, take_all}
 use Rattle.std.proofs.lemmas.List.Filters.{length-filter_more}
+use Rattle.std.proofs.lemmas.List.Folds.{list_any_at}
+use Rattle.wm_base.proofs.Plain.{none_since}
 use Rattle.wm_page.proofs.Batches.{length-entries}
 use Rattle.wm_page.specs.Batch.{entries}
 use Rattle.wm_page.specs.declared.write.PageWrite.{PageWrite}
 use Rattle.wm_heap.specs.declared.blob.Blob.{Blob}
 use Rattle.wm_heap.specs.declared.heap.Heap.{Heap}
 use Rattle.wm_heap.specs.declared.slot.Slot.{Slot}
-use Rattle.wm_heap.specs.Blobs.{blob_at, AreBlobs, AlterOnly, AreBytes, OverBytes}
+use Rattle.wm_heap.specs.Blobs.{blob_at, AreBlobs, AlterOnly, AreBytes, OverBytes, change_something}
 use Rattle.wm_heap.specs.Content.{bytes_at, slots_in, content}
 use Rattle.wm_heap.specs.Draft.{bytes_now, Grows, Done, Alters, paged}
-use Rattle.wm_heap.specs.Places.{place_of, page_count, IsHeapOf}
+use Rattle.wm_heap.specs.Places.{at, place_of, page_count, IsHeapOf}
 use Rattle.wm_heap.specs.Plan.{PutsFew}
 use Rattle.wm_heap.proofs.Planning.{AreBlobs-rest, head_named, paged_none, planned_few}
 use Rattle.wm_heap.proofs.Upto.{bytes_at-all}
@@ -134,14 +136,53 @@ altering_on heap new was now held in_use in_file standing blobs i b within is on
     by_pages here e (inl kept) = AlterOnly-push [] standing (take i blobs) b (before.none (sym kept.1 ∙ e)) (sym here ∙ kept.0)
     by_pages here e (inr other) = absurd (let some = other.1 in omega (arith, ap length e))
 
+-- ---- blobs that only drop ids without a place
+
+idle_at : (there : ℕ → Bool) (blobs : List Blob) (i : ℕ) (b : Blob) → i < length blobs → b ≡ get_or blobs i b → change_something there blobs ≡ false → (is_some b.bytes ≡ false) × (there b.id ≡ false)
+idle_at there blobs i b within is nothing = or_parts (is_some b.bytes) (there b.id) (by_test (is_some b.bytes || there b.id) refl)
+  where
+    by_test : (t : Bool) → (is_some b.bytes || there b.id) ≡ t → t ≡ false
+    by_test false e = refl
+    by_test true e =
+        absurd (let some : change_something there blobs ≡ true = list_any_at (λ (x : Blob). is_some x.bytes || there x.id) blobs i b within (subst (λ (x : Blob). (is_some x.bytes || there x.id) ≡ true) is e) in
+        cc)
+
+-- no page was put, and each id has the place that it had
+pub record Idle (old heap : Heap) (changed : List (ℕ × List Slot)) : Type 0 where
+  pub none : changed ≡ []
+  pub places : heap.places.entries ≡ old.places.entries
+
+pub idle_on : (old heap new : Heap) (was now : List (ℕ × List Slot)) (blobs : List Blob) (i : ℕ) (b : Blob) → i < length blobs → b ≡ get_or blobs i b → change_something (λ id. is_some (place_of old id)) blobs ≡ false → Idle old heap was
+    → (place_of heap b.id ≡ None → b.bytes ≡ None → now ≡ was) → (place_of heap b.id ≡ None → b.bytes ≡ None → new.places.entries ≡ heap.places.entries) → Idle old new now
+idle_on old heap new was now blobs i b within is nothing idle kept same =
+    let parts = idle_at (λ id. is_some (place_of old id)) blobs i b within is nothing in
+    let place : place_of heap b.id ≡ None = ap (λ l. at l b.id) idle.places ∙ none_since (place_of old b.id) parts.1 in
+    let bytes : b.bytes ≡ None = none_since b.bytes parts.0 in
+    record { none = kept place bytes ∙ idle.none; places = same place bytes ∙ idle.places }
+
 -- ---- as the calls say it
+
+empty : {A : Type 0} (xs : List A) → eqb (length xs) 0 ≡ true → xs ≡ []
+empty [] e = refl
+empty (x ∷ xs) e = absurd (let f = eqb-true (length (x ∷ xs)) 0 e in omega arith)
+
+counted : (old heap : Heap) (changed : List (ℕ × List Slot)) (before count : ℕ) (pages : List PageWrite) → before ≡ page_count old → count ≡ page_count heap → entries pages ≡ paged before count changed → Grows (page_count old) (page_count heap) [] changed
+    → eqb (length pages) 0 ≡ eqb (length changed) 0
+counted old heap changed before count pages before_is count_is pages_are grows =
+    ap (λ n. eqb n 0) (sym (length-entries pages) ∙ ap length (pages_are ∙ ap (λ n. paged n count changed) before_is ∙ ap (λ n. paged (page_count old) n changed) count_is))
+    ∙ paged_none (page_count old) (page_count heap) changed grows
+
+pub idle_pages : (old heap : Heap) (changed : List (ℕ × List Slot)) (before count : ℕ) (pages : List PageWrite) → before ≡ page_count old → count ≡ page_count heap → entries pages ≡ paged before count changed → Grows (page_count old) (page_count heap) [] changed
+    → Idle old heap changed → pages ≡ []
+idle_pages old heap changed before count pages before_is count_is pages_are grows idle =
+    empty pages (counted old heap changed before count pages before_is count_is pages_are grows ∙ ap (λ l. eqb (length l) 0) idle.none)
 
 pub altered : (old heap : Heap) (changed : List (ℕ × List Slot)) (held : ℕ → List ℕ) (standing : ℕ → Option (List ℕ)) (blobs : List Blob) (i before count : ℕ) (pages : List PageWrite) → before ≡ page_count old → count ≡ page_count heap → entries pages ≡ paged before count changed
     → length blobs ≤ i → AreBlobs blobs → Grows (page_count old) (page_count heap) [] changed → Altering heap changed held standing blobs i → PutsFew blobs pages standing
 altered old heap changed held standing blobs i before count pages before_is count_is pages_are end once grows altering = record {
   none = (
-    λ none. subst (AlterOnly [] standing) all (altering.none (empty changed (sym counted ∙ ap (λ (ps : List PageWrite). eqb (length ps) 0) none))),
-    λ only. empty pages (counted ∙ (let few : length changed ≤ 2 * length (filter (is_among []) (take i blobs)) = altering.few [] only in let zero_is = none_among (take i blobs) in grind (arith, few, zero_is))),
+    λ none. subst (AlterOnly [] standing) all (altering.none (empty changed (sym pages_none ∙ ap (λ (ps : List PageWrite). eqb (length ps) 0) none))),
+    λ only. empty pages (pages_none ∙ (let few : length changed ≤ 2 * length (filter (is_among []) (take i blobs)) = altering.few [] only in let zero_is = none_among (take i blobs) in grind (arith, few, zero_is))),
   );
   few = λ ids only.
       planned_few changed before count (length (filter (is_among ids) blobs)) (length ids) pages pages_are
@@ -152,11 +193,5 @@ altered old heap changed held standing blobs i before count pages before_is coun
     all : take i blobs ≡ blobs
     all = take_all i blobs end
 
-    empty : {A : Type 0} (xs : List A) → eqb (length xs) 0 ≡ true → xs ≡ []
-    empty [] e = refl
-    empty (x ∷ xs) e = absurd (let f = eqb-true (length (x ∷ xs)) 0 e in omega arith)
-
-    counted : eqb (length pages) 0 ≡ eqb (length changed) 0
-    counted =
-        ap (λ n. eqb n 0) (sym (length-entries pages) ∙ ap length (pages_are ∙ ap (λ n. paged n count changed) before_is ∙ ap (λ n. paged (page_count old) n changed) count_is))
-        ∙ paged_none (page_count old) (page_count heap) changed grows
+    pages_none : eqb (length pages) 0 ≡ eqb (length changed) 0
+    pages_none = counted old heap changed before count pages before_is count_is pages_are grows

@@ -1,5 +1,5 @@
 -- How the ids of a page get their places, one slot after another.
-use Rattle.std.proofs.Common.{◌≡◌, ℕ, zero, suc, ◌+◌, ◌-◌, ◌<◌, ◌≤◌, ◌⊎◌, inl, inr, Bool, true, false, cond, ◌||◌, eqb, ltb, List, [], ◌∷◌, ◌++◌, length, length-append, get_or, take, drop, Option, Some, None, is_some, unwrap_or, refl, sym, ap, subst, ◌∙◌, arith}
+use Rattle.std.proofs.Common.{◌≡◌, ℕ, zero, suc, ◌+◌, ◌-◌, ◌<◌, ◌≤◌, ◌⊎◌, inl, inr, max, Bool, true, false, cond, ◌||◌, eqb, ltb, List, [], ◌∷◌, ◌++◌, length, length-append, get_or, take, drop, Option, Some, None, is_some, unwrap_or, refl, sym, ap, subst, ◌∙◌, arith}
 use Rattle.std.specs.Option.{option_or}
 use Rattle.std.proofs.lemmas.Bool.{cases_lt, lt-ltb, eqb-true}
 use Rattle.std.proofs.lemmas.List.{drop_more, take_more}
@@ -191,6 +191,34 @@ pub heap_more : (old new : Heap) (held : ℕ → List ℕ) (in_file page : ℕ) 
 heap_more old new held in_file page slots next is sound whole found apart placed ids =
     heap_next old new held in_file slots is sound (subst (λ k. k < in_file) next whole) (subst (λ k. slots_of (held k) ≡ Some slots) next found) apart
     (subst (λ k. (id : ℕ) → place_of new id ≡ cond (is_some (bytes_at slots id)) (Some k) (place_of old id)) next placed) ids
+
+-- all pages in use
+pub heap_all : (heap : Heap) (held : ℕ → List ℕ) (in_file page count : ℕ) → page_count heap ≡ page → count ≤ page → page ≤ max 2 count → IsHeapOf heap held (page_count heap) → fault_of held (page_count heap) in_file ≡ None
+    → IsHeapOf heap held count × (fault_of held count in_file ≡ None)
+heap_all heap held in_file page count here end few is sound = by_size (cases_lt count 2)
+  where
+    by_size : (count < 2) ⊎ (2 ≤ count) → IsHeapOf heap held count × (fault_of held count in_file ≡ None)
+    by_size (inr enough) = let same : page_count heap ≡ count = omega arith in (subst (IsHeapOf heap held) same is, subst (λ n. fault_of held n in_file ≡ None) same sound)
+    by_size (inl less) = (
+      record {
+        pages = omega arith;
+        slots = λ p from till. absurd (omega arith);
+        placed = record {
+          there = λ id p e. absurd (let t = is.placed.there id p e in let a = t.0 in let b = t.1 in omega arith);
+          only = λ id p from till there. absurd (omega arith);
+          once = λ p from till. absurd (omega arith);
+        };
+        ids = λ p from till. absurd (omega arith);
+      },
+      let none : count - 2 ≡ 0 = omega arith in rw none refl,
+    )
+
+pub whole_more : (page in_file : ℕ) → ((p : ℕ) → 2 ≤ p → p < page → p < in_file) → page < in_file → (p : ℕ) → 2 ≤ p → p < page + 1 → p < in_file
+whole_more page in_file before here p from till = by_case (cases_lt p page)
+  where
+    by_case : (p < page) ⊎ (page ≤ p) → p < in_file
+    by_case (inl less) = before p from less
+    by_case (inr more) = omega arith
 
 -- ---- as the calls say it
 

@@ -1,5 +1,5 @@
 -- What is to become of the bytes under some ids.
-use Rattle.std.specs.Prelude.{◌≡◌, ℕ, ◌<◌, ◌≤◌, true, false, ◌==◌, if◌then◌else◌, List, [], ◌∷◌, ◌++◌, map, length, slice_index, Option, Some, None, IfSome}
+use Rattle.std.specs.Prelude.{◌≡◌, ℕ, ◌<◌, ◌≤◌, Bool, true, false, ◌||◌, ◌==◌, if◌then◌else◌, List, [], ◌∷◌, ◌++◌, map, length, slice_index, Option, Some, None, is_some, IfSome}
 use Rattle.std.specs.List.{list_any}
 use Rattle.wm_spec.specs.Records.{ids_differ}
 use Rattle.wm_heap.specs.declared.blob.Blob.{Blob}
@@ -33,6 +33,10 @@ slots_of_bytes id (Some bytes) = (record { id = id; bytes = bytes }) ∷ []
 abbrev pub slots_put : List Blob → List Slot
 slots_put [] = []
 slots_put (b ∷ blobs) = slots_of_bytes b.id b.bytes ++ slots_put blobs
+
+-- one of them puts bytes, or drops some that are there
+abbrev pub change_something : (ℕ → Bool) → List Blob → Bool
+change_something there blobs = list_any (λ b. is_some b.bytes || there b.id) blobs
 
 -- each of them that is of none of these ids says what stands there already
 abbrev pub AlterOnly : List ℕ → (ℕ → Option (List ℕ)) → List Blob → Type 0

@@ -1,4 +1,5 @@
--- What the pages of a store hold: the slots of the pages in use, the bytes that stand under each id, and the first fault.
+-- What the pages of a store hold: the slots of the pages in use, the bytes that stand under each id, and the first
+-- fault.
 use Rattle.std.specs.Prelude.{ℕ, zero, suc, ◌+◌, ◌-◌, Bool, true, false, ◌||◌, ◌==◌, nat_lt, if◌then◌else◌, List, [], ◌∷◌, ◌++◌, Option, Some, None, is_some, unwrap_or}
 use Rattle.std.specs.Option.{option_map, option_or}
 use Rattle.wm_base.specs.declared.fault.Damage.{Damage}

@@ -48,7 +48,8 @@ pub record Puts (page : ℕ) (slots : List Slot) (id : ℕ) (place : Option ℕ)
   pub count : page_count new ≡ max (page_count old) (suc page)
   pub places : (j : ℕ) → place_of new j ≡ (if j == id then place else place_of old j)
 
--- from one page count to another: pages that were put stay put, others lie within the count, and new ones are among them
+-- from one page count to another: pages that were put stay put, others lie within the count, and new ones are among
+-- them
 pub record Grows (old new : ℕ) (was now : List (ℕ × List Slot)) : Type 0 where
   pub no_fewer : old ≤ new
   pub kept : (p : ℕ) → is_some (at was p) ≡ true → is_some (at now p) ≡ true
@@ -61,12 +62,14 @@ pub record Goes (old new : Heap) (was now : List (ℕ × List Slot)) (id : ℕ) 
   pub grows : Grows (page_count old) (page_count new) was now
   pub others : (j : ℕ) → (j == id) ≡ false → place_of new j ≡ place_of old j
 
--- after a step that puts these bytes under an id the heap is that of the pages, and they hold what they held but for that
+-- after a step that puts these bytes under an id the heap is that of the pages, and they hold what they held but for
+-- that
 pub record Done (old new : Heap) (was now : List (ℕ × List Slot)) (held : ℕ → List ℕ) (in_use in_file id : ℕ) (bytes : Option (List ℕ)) : Type 0 where
   pub stands : Stands new now held in_use in_file
   pub bytes_are : (j : ℕ) → bytes_now new now held j ≡ (if j == id then bytes else bytes_now old was held j)
 
--- no page is put where these bytes stand under an id already, and some are put by now where others stand there; what stands there are bytes
+-- no page is put where these bytes stand under an id already, and some are put by now where others stand there; what
+-- stands there are bytes
 pub record Alters (old : Heap) (was now : List (ℕ × List Slot)) (held : ℕ → List ℕ) (id : ℕ) (bytes : Option (List ℕ)) : Type 0 where
   pub pages : ((bytes_now old was held id ≡ bytes) × (now ≡ was)) ⊎ ((bytes_now old was held id ≢ bytes) × (0 < length now))
   pub read : AreBytes (bytes_now old was held id)

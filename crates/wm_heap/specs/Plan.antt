@@ -31,8 +31,8 @@ pub record IsChanged (heap : Heap) (blobs : List Blob) (pages : List (ℕ × Lis
   pub sound : (whole : ℕ) → page_count heap ≤ whole → fault_of (laid pages held) (page_count heap) whole ≡ None
   pub bytes : (id : ℕ) → bytes_at (content (laid pages held) (page_count heap)) id ≡ after (blob_at blobs id) (bytes_at (content held before) id)
 
--- pages that are put for blobs over what stands under their ids: none exactly where each blob says what stands there already, and few for
--- those that say something else; what stands there was read, so it is known to be bytes
+-- pages that are put for blobs over what stands under their ids: none exactly where each blob says what stands there
+-- already, and few for those that say something else; what stands there was read, so it is known to be bytes
 pub record PutsFew (blobs : List Blob) (pages : List PageWrite) (standing : ℕ → Option (List ℕ)) : Type 0 where
   pub none : (pages ≡ []) ↔ AlterOnly [] standing blobs
   pub few : (ids : List ℕ) → AlterOnly ids standing blobs → length pages ≤ 2 * length ids + 2

@@ -209,6 +209,8 @@ impl Heap {
         ensures done { G.tells → OnOk result (Done self.old self.new changed.old.entries changed.new.entries (G.held pages.old) (G.in_use pages.old) (G.in_file pages.old) blob.now.id blob.now.bytes) }
         ensures alters { G.tells → OnOk result (Alters self.old changed.old.entries changed.new.entries (G.held pages.old) blob.now.id blob.now.bytes) }
         ensures few { OnOk result (length changed.new.entries ≤ length changed.old.entries + 2) }
+        ensures none { place_of self.old blob.now.id ≡ None → blob.now.bytes ≡ None → changed.new.entries ≡ changed.old.entries }
+        ensures places { place_of self.old blob.now.id ≡ None → blob.now.bytes ≡ None → self.new.places.entries ≡ self.old.places.entries }
         ensures told { G.tells → G.held pages.new ≡ G.held pages.old }
         ensures past { G.tells → G.past pages.new ≡ G.past pages.old }
         ensures source { G.source pages.new ≡ G.source pages.old }

@@ -1,9 +1,9 @@
 //! The heap: where each record stands.
-ghost use Rattle.std.specs.Prelude.{◌≡◌, ℕ, ◌+◌, ◌*◌, ◌<◌, ◌≤◌, ◌++◌, length, is_some, IfOk, IsErrOf, OnOk};
+ghost use Rattle.std.specs.Prelude.{◌≡◌, ℕ, ◌+◌, ◌*◌, ◌<◌, ◌≤◌, false, [], ◌++◌, length, is_some, IfOk, IsErrOf, OnOk};
 ghost use Rattle.wm_base.specs.declared.fault.StoreFault.TheVariants as faults;
 ghost use Rattle.wm_page.specs.Batch.{entries};
 ghost use Rattle.wm_page.specs.Cause.{StoreCause};
-ghost use Rattle.wm_heap.specs.Blobs.{AreBlobs, AreSmall};
+ghost use Rattle.wm_heap.specs.Blobs.{AreBlobs, AreSmall, change_something};
 ghost use Rattle.wm_heap.specs.Content.{content, bytes_at};
 ghost use Rattle.wm_heap.specs.Places.{place_of, page_count, spots_of, spots_on, IsHeapOf};
 ghost use Rattle.wm_heap.specs.Plan.{IsPlan, IsChanged, PutsFew};
@@ -80,10 +80,10 @@ impl Heap {
         Ok(spots)
     }
 
-    /// The pages that put the changes in place, and none exactly where each change says what stands there already. The
-    /// heap is then that of the store with these pages. They are at most two for each change that says something else,
-    /// and two more. What stood under the ids was read, so it is known to be bytes. After an error the heap is to be given
-    /// up.
+    /// The pages that put the changes in place, and none exactly where each change says what stands there already.
+    /// There are none, whatever is read, where the changes only drop ids that have no place. The heap is then that of
+    /// the store with these pages. They are at most two for each change that says something else, and two more. What
+    /// stood under the ids was read, so it is known to be bytes. After an error the heap is to be given up.
     pub fn plan<G: Pages>(
         &mut self,
         alloc: Global,
@@ -96,6 +96,7 @@ impl Heap {
         requires whole { G.tells → G.in_use pages.old ≤ G.in_file pages.old }
         ensures plan { IfOk result (λ b. IsPlan (page_count self.old) (page_count self.new) (entries b.pages)) }
         ensures few { IfOk result (λ b. length b.pages ≤ 2 * length batch.now + 2) }
+        ensures idle { IfOk result (λ b. change_something (λ id. is_some (place_of self.old id)) batch.now ≡ false → b.pages ≡ []) }
         ensures altered { G.tells → IfOk result (λ b. PutsFew batch.now b.pages (bytes_at (content (G.held pages.old) (G.in_use pages.old)))) }
         ensures changed { G.tells → IfOk result (λ b. IsChanged self.new batch.now (entries b.pages) (G.held pages.old) (G.in_use pages.old)) }
         ensures told { G.tells → G.held pages.new ≡ G.held pages.old }

@@ -1,5 +1,5 @@
 //! How a heap is read from the pages of a store, or put on the first of them.
-ghost use Rattle.std.specs.Prelude.{◌≡◌, ℕ, ◌+◌, ◌<◌, ◌≤◌, Bool, false, nat_lt, if◌then◌else◌, List, [], ◌∷◌, ◌++◌, Some, None, is_some, IfOk, OnOk, IfErr, IsErrOf};
+ghost use Rattle.std.specs.Prelude.{◌≡◌, ℕ, ◌+◌, ◌-◌, ◌<◌, ◌≤◌, Bool, false, nat_lt, if◌then◌else◌, List, [], ◌∷◌, ◌++◌, length, Some, None, is_some, IfOk, OnOk, IfErr, IsErrOf};
 ghost use Rattle.wm_base.specs.declared.fault.OpenFault.TheVariants as faults;
 ghost use Rattle.wm_heap.specs.Asking.{Finds, FindsTwice};
 ghost use Rattle.wm_heap.specs.Content.{bytes_at, is_twice, damage_on, fault_of, slots_in};
@@ -105,13 +105,14 @@ impl Heap {
     }
 
     /// Loads the page behind those that were loaded and passed each test: tests it, keeps where its records stand, and
-    /// gives its slots. A fault is the first of the store.
+    /// gives its slots. A fault is the first of the store. After an error the heap is to be given up.
     pub fn load_page<G: Pages>(&mut self, alloc: Global, pages: &mut G) -> Result<Slots, OpenFault>
         requires next { page_count self.old < G.in_use pages.old }
         requires heap { G.tells → IsHeapOf self.old (G.held pages.old) (page_count self.old) }
         requires undamaged { G.tells → fault_of (G.held pages.old) (page_count self.old) (G.in_file pages.old) ≡ None }
         ensures slots { G.tells → IfOk result (λ slots. slots ≡ slots_in (G.held pages.old) (page_count self.old)) }
         ensures count { OnOk result (page_count self.new ≡ page_count self.old + 1) }
+        ensures whole { OnOk result (page_count self.old < G.in_file pages.old) }
         ensures heap { G.tells → OnOk result (IsHeapOf self.new (G.held pages.old) (page_count self.new)) }
         ensures undamaged { G.tells → OnOk result (fault_of (G.held pages.old) (page_count self.new) (G.in_file pages.old) ≡ None) }
         ensures fault { G.tells → IfErr result (λ e. Finds e (fault_of (G.held pages.old) (G.in_use pages.old) (G.in_file pages.old))) }
@@ -127,6 +128,28 @@ impl Heap {
         let slots = load_slots(alloc, pages, page)?;
         self.keep_slots(alloc, page, &slots)?;
         Ok(slots)
+    }
+
+    /// Where the records of a store stand, after each page was tested. It serves where no slots are wanted besides.
+    pub fn load<G: Pages>(alloc: Global, pages: &mut G) -> Result<Heap, OpenFault>
+        ensures heap { G.tells → IfOk result (λ heap. IsHeapOf heap (G.held pages.old) (G.in_use pages.old)) }
+        ensures count { IfOk result (λ heap. length heap.ids.items ≡ G.in_use pages.old - 2) }
+        ensures whole { OnOk result ((p : ℕ) → 2 ≤ p → p < G.in_use pages.old → p < G.in_file pages.old) }
+        ensures undamaged { G.tells → OnOk result (fault_of (G.held pages.old) (G.in_use pages.old) (G.in_file pages.old) ≡ None) }
+        ensures fault { G.tells → IfErr result (λ e. Finds e (fault_of (G.held pages.old) (G.in_use pages.old) (G.in_file pages.old))) }
+        ensures store { IsErrOf result faults.NotStore → ⊥ }
+        ensures told { G.tells → G.held pages.new ≡ G.held pages.old }
+        ensures past { G.tells → G.past pages.new ≡ G.past pages.old }
+        ensures source { G.source pages.new ≡ G.source pages.old }
+        ensures in_use { G.in_use pages.new ≡ G.in_use pages.old }
+        ensures in_file { G.in_file pages.new ≡ G.in_file pages.old }
+        ensures cause { OpenCause (G.faults pages.old) (G.faults pages.new) result }
+    {
+        let mut heap = Heap::new(alloc);
+        for _ in 2..pages.count() {
+            heap.load_page(alloc, pages)?;
+        }
+        Ok(heap)
     }
 
     /// The heap of a store that holds these records alone, and its pages: page 1 and page 2.

@@ -25,6 +25,7 @@ pub fn set_page_of(places: &mut Places, id: u64, page: u64) -> Result<Option<u64
     Ok(before)
 }
 
+/// Takes its page from an id, where it has one.
 pub fn clear_page_of(places: &mut Places, id: u64)
     ensures { (j : ℕ) → at places.new.entries j ≡ (if j == id then None else at places.old.entries j) }
 {

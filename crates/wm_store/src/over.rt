@@ -1,12 +1,12 @@
 //! The heap over the pages of a station.
-ghost use Rattle.std.specs.Prelude.{◌≡◌, ℕ, ◌+◌, ◌*◌, ◌/◌, ◌<◌, ◌≤◌, length, is_some, Ok, IfOk, IfErr, OnOk, IsErrOf};
+ghost use Rattle.std.specs.Prelude.{◌≡◌, ℕ, ◌+◌, ◌*◌, ◌/◌, ◌<◌, ◌≤◌, false, [], length, is_some, Ok, IfOk, IfErr, OnOk, IsErrOf};
 ghost use Rattle.wm_base.specs.declared.fault.OpenFault.TheVariants as opening;
 ghost use Rattle.wm_base.specs.declared.fault.StoreFault.TheVariants as storing;
 ghost use Rattle.wm_page.specs.Batch.{entries};
 ghost use Rattle.wm_page.specs.Cause.{OpenCause, StoreCause};
 ghost use Rattle.wm_station.specs.History.{now};
 ghost use Rattle.wm_journal.specs.Disk.{page};
-ghost use Rattle.wm_heap.specs.Blobs.{AreBlobs, AreSmall};
+ghost use Rattle.wm_heap.specs.Blobs.{AreBlobs, AreSmall, change_something};
 ghost use Rattle.wm_heap.specs.Content.{content, bytes_at};
 ghost use Rattle.wm_heap.specs.Places.{place_of, page_count, IsHeapOf};
 ghost use Rattle.wm_heap.specs.Plan.{IsPlan, IsChanged, PutsFew};
@@ -67,6 +67,7 @@ pub fn plan_over<P: Station>(
     requires size { P.tells → count * 4096 ≤ length (now (P.history station.old)) }
     ensures plan { IfOk result (λ b. IsPlan (page_count heap.old) (page_count heap.new) (entries b.pages)) }
     ensures few { IfOk result (λ b. length b.pages ≤ 2 * length blobs.now + 2) }
+    ensures idle { IfOk result (λ b. change_something (λ id. is_some (place_of heap.old id)) blobs.now ≡ false → b.pages ≡ []) }
     ensures altered { P.tells → IfOk result (λ b. PutsFew blobs.now b.pages (bytes_at (content (page (now (P.history station.old))) count))) }
     ensures changed { P.tells → IfOk result (λ b. IsChanged heap.new blobs.now (entries b.pages) (page (now (P.history station.old))) count) }
     ensures told { P.tells → P.history station.new ≡ P.history station.old }

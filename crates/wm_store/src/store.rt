@@ -148,8 +148,8 @@ impl Store {
         Ok(())
     }
 
-    /// The record of an id, read from its page; None exactly where there is none of this id. The store knows where an id
-    /// stands and nothing of what the records say, so a row is asked for by its id and not by its stamp. Changed is
+    /// The record of an id, read from its page; None exactly where there is none of this id. The store knows where an
+    /// id stands and nothing of what the records say, so a row is asked for by its id and not by its stamp. Changed is
     /// answered where the page no longer has what it had.
     pub fn fetch<P: Station>(
         &self,

@@ -1,7 +1,7 @@
 use Rattle.std.proofs.Common.{◌<◌, ◌≤◌, length, get_or, refl, ap, subst, ◌∙◌, arith}
 use Rattle.wm_heap.specs.Content.{bytes_at, content}
 use Rattle.wm_heap.specs.Draft.{Alters, Done}
-use Rattle.wm_heap.proofs.Altering.{altering_begun, altering_on, altered}
+use Rattle.wm_heap.proofs.Altering.{altering_begun, altering_on, altered, idle_on, idle_pages}
 use Rattle.wm_heap.proofs.Standing.{at_pages}
 use Rattle.wm_heap.proofs.Planning.{going_begun, going_on, telling_begun, telling_on, planned, planned_few, planned_told}
 use Rattle.wm_heap.proofs.heap.Heap.plan.Goals as goal
@@ -10,6 +10,7 @@ pub loop-blob-init : goal.loop-blob-init
 loop-blob-init g c = record {
   going = going_begun c.args.self.now c.new-changed.result.entries c.args.batch.now c.new-changed.ensures.empty c.requires.once c.requires.small;
   few = omega (arith, ap length c.new-changed.ensures.empty);
+  idle = λ nothing. record { none = c.new-changed.ensures.empty; places = refl };
   within = omega arith;
   told = λ t. refl;
   past = λ t. refl;
@@ -31,6 +32,7 @@ loop-blob-preserved g c =
     record {
       going = going_on c.args.self.now c.loop-blob.self c.change.new.self c.loop-blob.changed.entries c.change.new.changed.entries c.args.batch.now c.loop-blob.blob-index c.blob-item.result within is inv.going did.goes;
       few = omega (arith, inv.few, did.few);
+      idle = λ nothing. idle_on c.args.self.now c.loop-blob.self c.change.new.self c.loop-blob.changed.entries c.change.new.changed.entries c.args.batch.now c.loop-blob.blob-index c.blob-item.result within is nothing (inv.idle nothing) did.none did.places;
       within = omega (arith, within);
       told = λ t. did.told t ∙ inv.told t;
       past = λ t. did.past t ∙ inv.past t;
@@ -54,6 +56,11 @@ returns-clause-plan g c =
     let inv = c.loop-blob.invariant in
     let done = c.in_ok-batch.ensures in
     planned c.args.self.now c.loop-blob.self c.loop-blob.changed.entries c.args.batch.now c.loop-blob.blob-index c.page_count-before.result c.page_count.result c.in_ok-batch.batch.pages c.page_count-before.ensures c.page_count.ensures done.pages done.root inv.going
+
+pub returns-clause-idle : goal.returns-clause-idle
+returns-clause-idle g c = λ nothing.
+    let inv = c.loop-blob.invariant in
+    idle_pages c.args.self.now c.loop-blob.self c.loop-blob.changed.entries c.page_count-before.result c.page_count.result c.in_ok-batch.batch.pages c.page_count-before.ensures c.page_count.ensures c.in_ok-batch.ensures.pages inv.going.grows (inv.idle nothing)
 
 pub returns-clause-altered : goal.returns-clause-altered
 returns-clause-altered g c = λ t.

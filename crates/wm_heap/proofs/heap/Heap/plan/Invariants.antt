@@ -1,6 +1,8 @@
-use Rattle.std.proofs.Common.{◌≡◌, ◌*◌, ◌≤◌, length}
+use Rattle.std.proofs.Common.{◌≡◌, ◌*◌, ◌≤◌, false, is_some, length}
+use Rattle.wm_heap.specs.Blobs.{change_something}
 use Rattle.wm_heap.specs.Content.{bytes_at, content}
-use Rattle.wm_heap.proofs.Altering.{Altering}
+use Rattle.wm_heap.specs.Places.{place_of}
+use Rattle.wm_heap.proofs.Altering.{Altering, Idle}
 use Rattle.wm_heap.proofs.Planning.{Going, Telling}
 use Rattle.wm_heap.proofs.heap.Heap.plan.Given as goal
 
@@ -8,6 +10,7 @@ abbrev pub invariant-loop-blob : goal.invariant-loop-blob
 invariant-loop-blob g l = record {
   going : Going l.fn.self l.self l.changed.entries l.fn.batch l.blob-index;
   few : length l.changed.entries ≤ 2 * l.blob-index;
+  idle : change_something (λ id. is_some (place_of l.fn.self id)) l.fn.batch ≡ false → Idle l.fn.self l.self l.changed.entries;
   within : l.blob-index ≤ length l.fn.batch;
   told : g.G.Pages.tells → g.G.Pages.held l.pages ≡ g.G.Pages.held l.fn.pages;
   past : g.G.Pages.tells → g.G.Pages.past l.pages ≡ g.G.Pages.past l.fn.pages;
