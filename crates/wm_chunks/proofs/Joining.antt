@@ -1,6 +1,6 @@
 -- Chunks one behind another: what is found in them, and what a change of one of them changes.
 use Rattle.std.proofs.Common.{◌≡◌, ◌≢◌, ℕ, zero, suc, ◌<◌, ◌≤◌, ◌+◌, ◌-◌, ◌*◌, ◌/◌, Bool, true, false, cond, List, [], ◌∷◌, ◌++◌, length, vec_len, ◌==◌, Option, Some, None, refl, sym, ap, subst, ◌∙◌, ◌⊎◌, inl, inr, arith}
-use Rattle.std.proofs.lemmas.Bool.{cases_eq, cases_lt, eq-eqb, eqb-true}
+use Rattle.std.proofs.lemmas.Bool.{cases_eq, cases_lt, eq-eqb, eqb-true, true≢false}
 use Rattle.std.proofs.lemmas.List.{append-nil, nil_from_length}
 use Rattle.std.proofs.lemmas.Map.Keys.{sorted_head, sorted_tail}
 use Rattle.std.specs.BTreeMap.{is_at}
@@ -243,9 +243,6 @@ none_left c b is empty = let none : vec_len c ≡ 0 = eqb-true (vec_len c) 0 (sy
 pub some_left : {V : Type 0} (c : Vec (ℕ × V) Global) (b : Bool) → b ≡ (vec_len c == 0) → b ≡ false → 0 < length c.items
 some_left c b is some = by_length (cases_eq (vec_len c) 0)
   where
-    true_false : true ≡ false → ⊥
-    true_false h = cc
-
     by_length : (vec_len c ≡ 0) ⊎ (vec_len c ≢ 0) → 0 < length c.items
-    by_length (inl none) = absurd (true_false (sym (eq-eqb (vec_len c) 0 none) ∙ sym is ∙ some))
+    by_length (inl none) = absurd (true≢false (sym (eq-eqb (vec_len c) 0 none) ∙ sym is ∙ some))
     by_length (inr apart) = omega (arith, apart)

@@ -1,6 +1,6 @@
 -- The pieces in an index, when what stands under an id is changed.
 use Rattle.std.proofs.Common.{◌≡◌, ℕ, ◌+◌, ◌==◌, ◌&&◌, ◌||◌, Bool, true, false, cond, List, [], ◌∷◌, Option, Some, None, refl, sym, ap, subst, ◌∙◌, arith}
-use Rattle.std.proofs.lemmas.Bool.{eq-eqb, eqb-true}
+use Rattle.std.proofs.lemmas.Bool.{eq-eqb, eqb-true, true≢false}
 use Rattle.std.specs.List.{AllByRecursion}
 use Rattle.std.specs.Option.{option_and_then, option_map_or}
 use Rattle.std.specs.Ordering.{is_eq}
@@ -23,9 +23,6 @@ use Rattle.wm_spec.specs.declared.record.piece.PieceRecord.{PieceRecord}
 use Rattle.wm_spec.specs.declared.record.stored.Stored.{Stored}
 use Rattle.wm_state.specs.ById.{Ascend, set_at}
 use Rattle.wm_state.proofs.ById.{Ascend-set, record_at-set}
-
-true_false : true ≡ false → ⊥
-true_false h = cc
 
 -- ---- the versions are nested as before
 
@@ -80,7 +77,7 @@ abbrev Same : ℕ → List Stored → List Stored → Type 0
 Same id ss rs = (j : ℕ) → (j == id) ≡ false → record_at rs j ≡ record_at ss j
 
 neither : (a b : Bool) → (a || b) ≡ false → (a ≡ false) × (b ≡ false)
-neither true b h = absurd (true_false h)
+neither true b h = absurd (true≢false h)
 neither false b h = (refl, h)
 
 apart_ids : (id : ℕ) (ss rs : List Stored) (from till : ℕ) (ids : List ℕ) → Same id ss rs → has_id id ids ≡ false → AllByRecursion (IsSpanned ss from till) ids → AllByRecursion (IsSpanned rs from till) ids

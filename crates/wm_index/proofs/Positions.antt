@@ -1,6 +1,6 @@
 -- Entries of a log by their positions, told by an id for each position.
 use Rattle.std.proofs.Common.{◌≡◌, ℕ, ◌==◌, Bool, true, false, cond, ◌&&◌, List, [], ◌∷◌, map, Option, Some, None, refl, sym, ap, subst, ◌∙◌, arith}
-use Rattle.std.proofs.lemmas.Bool.{eq-eqb, eqb-true}
+use Rattle.std.proofs.lemmas.Bool.{eq-eqb, eqb-true, true≢false}
 use Rattle.std.proofs.lemmas.Map.Keys.{sorted_head, sorted_tail}
 use Rattle.std.specs.BTreeMap.{is_at}
 use Rattle.std.specs.List.{AllByRecursion, find}
@@ -26,9 +26,6 @@ use Rattle.wm_index.specs.Indexed.{IsIndexed, ids_at, listed}
 use Rattle.wm_index.specs.Kinds.{kind_at}
 use Rattle.wm_index.specs.Sought.{HistsOn, is_sought}
 use Rattle.wm_index.specs.declared.index.Index.{Index}
-
-true_false : true ≡ false → ⊥
-true_false h = cc
 
 -- the entry of an id
 abbrev entry_at : List Stored → ℕ → Option Hist
@@ -115,7 +112,7 @@ all_stand ss ids all (e ∷ es) among sorted placed = (
 
 -- an id whose entry stands at a position
 found_entry : (position : ℕ) (o : Option Hist) → is_found_at position o ≡ true → (x : Hist) × (o ≡ Some x) × (x.position ≡ position)
-found_entry position None is = absurd (true_false (sym is))
+found_entry position None is = absurd (true≢false (sym is))
 found_entry position (Some x) is = (x, refl, eqb-true x.position position is)
 
 positions_are : (ss : List Stored) (es : List (ℕ × ℕ)) → Stand ss es → map (λ (x : Hist). x.position) (kind_at as_hist ss (values_of es)) ≡ keys_of es

@@ -1,6 +1,6 @@
 -- Ids by workspace and position: one put there, one taken out, and those of a workspace from a position on.
 use Rattle.std.proofs.Common.{◌≡◌, ◌≢◌, ℕ, ◌<◌, ◌≤◌, ◌==◌, nat_le, Bool, true, false, cond, ◌&&◌, List, [], ◌∷◌, ◌++◌, map, append_assoc, append-nil, refl, sym, ap, ap₂, ◌∙◌, ◌⊎◌, inl, inr, arith}
-use Rattle.std.proofs.lemmas.Bool.{cases_lt, eq-eqb, eqb-true, ne_eqb}
+use Rattle.std.proofs.lemmas.Bool.{cases_lt, eq-eqb, eqb-true, ne_eqb, and_parts}
 use Rattle.std.proofs.lemmas.List.Sums.{take_while-cons}
 use Rattle.std.proofs.lemmas.Map.Keys.{sorted_head, sorted_tail}
 use Rattle.std.specs.BTreeMap.{is_at}
@@ -33,14 +33,10 @@ is_there q e = (e.0 == q.0) && (e.1 == q.1)
 order_there : (a b : Place) → a.0 ≡ b.0 → a.1 ≡ b.1 → triple_order a b ≡ nat_cmp a.2 b.2
 order_there a b space position = ap₂ (λ s p. ordering_then (ordering_then s p) (nat_cmp a.2 b.2)) (equal_is a.0 b.0 space) (equal_is a.1 b.1 position)
 
-both_true : (a b : Bool) → (a && b) ≡ true → (a ≡ true) × (b ≡ true)
-both_true true b is = (refl, is)
-both_true false b is = cc
-
 same_place : (q : ℕ × ℕ) (a b : Place) → is_there q a ≡ true → is_there q b ≡ true → triple_order a b ≡ nat_cmp a.2 b.2
 same_place q a b one other =
-    let at = both_true (a.0 == q.0) (a.1 == q.1) one in
-    let too = both_true (b.0 == q.0) (b.1 == q.1) other in
+    let at = and_parts (a.0 == q.0) (a.1 == q.1) one in
+    let too = and_parts (b.0 == q.0) (b.1 == q.1) other in
     order_there a b (eqb-true a.0 q.0 at.0 ∙ sym (eqb-true b.0 q.0 too.0)) (eqb-true a.1 q.1 at.1 ∙ sym (eqb-true b.1 q.1 too.1))
 
 triple_tied : (a b : Place) → is_eq (triple_order a b) ≡ (((a.0 == b.0) && (a.1 == b.1)) && (a.2 == b.2))
@@ -50,8 +46,8 @@ triple_tied a b =
 
 triple_same : (a b : Place) → is_eq (triple_order a b) ≡ true → a ≡ b
 triple_same a b tie =
-    let one = both_true ((a.0 == b.0) && (a.1 == b.1)) (a.2 == b.2) (sym (triple_tied a b) ∙ tie) in
-    let two = both_true (a.0 == b.0) (a.1 == b.1) one.0 in
+    let one = and_parts ((a.0 == b.0) && (a.1 == b.1)) (a.2 == b.2) (sym (triple_tied a b) ∙ tie) in
+    let two = and_parts (a.0 == b.0) (a.1 == b.1) one.0 in
     equal_parts (eqb-true a.0 b.0 two.0) (eqb-true a.1 b.1 two.1) (eqb-true a.2 b.2 one.1)
   where
     equal_parts : a.0 ≡ b.0 → a.1 ≡ b.1 → a.2 ≡ b.2 → a ≡ b

@@ -1,6 +1,6 @@
 -- The touches of a workspace from a position on, told by the ids at its positions.
 use Rattle.std.proofs.Common.{◌≡◌, ℕ, ◌==◌, nat_le, Bool, true, false, cond, ◌&&◌, ◌||◌, List, [], ◌∷◌, map, Option, Some, None, refl, sym, ap, ap₂, subst, ◌∙◌, arith}
-use Rattle.std.proofs.lemmas.Bool.{eq-eqb, ne_eqb, eqb-true}
+use Rattle.std.proofs.lemmas.Bool.{eq-eqb, ne_eqb, eqb-true, true≢false}
 use Rattle.std.proofs.lemmas.Map.Keys.{sorted_head, sorted_tail}
 use Rattle.std.specs.Cmp.{both_ways}
 use Rattle.std.specs.List.{AllByRecursion, filter, list_any}
@@ -20,9 +20,6 @@ use Rattle.wm_spec.specs.Records.{record_at}
 use Rattle.wm_spec.specs.declared.record.Record.{Record}
 use Rattle.wm_spec.specs.declared.record.Record.TheVariants as records
 use Rattle.wm_spec.specs.declared.record.stored.Stored.{Stored}
-
-true_false : true ≡ false → ⊥
-true_false h = cc
 
 -- the id is one of them
 abbrev pub has_id : ℕ → List ℕ → Bool
@@ -59,7 +56,7 @@ among_with p id (s ∷ ss) sorted = by_id (s.id == id) refl (among_with p id ss 
     by_id false apart rest =
         away (p s.record) apart
         ∙ rest
-        ∙ ap (λ o. option_map_or p o false) (sym (record_at-away s ss id (λ e. true_false (sym (eq-eqb s.id id e) ∙ apart))))
+        ∙ ap (λ o. option_map_or p o false) (sym (record_at-away s ss id (λ e. true≢false (sym (eq-eqb s.id id e) ∙ apart))))
 
 -- ---- the ids of places
 
@@ -97,7 +94,7 @@ found_at space from id n (e ∷ es) le there = by_test (e.0 == space) refl (e.1 
 
 -- an id that is found is at such a position
 at_found : (space from id : ℕ) (es : List Place) → has_id id (ids_since es space from) ≡ true → (n : ℕ) × (nat_le from n ≡ true) × (has_id id (ids_at_position es (space, n)) ≡ true)
-at_found space from id [] found = absurd (true_false (sym found))
+at_found space from id [] found = absurd (true≢false (sym found))
 at_found space from id (e ∷ es) found = by_test (e.0 == space) refl (nat_le from e.1) refl found (λ rest. later (at_found space from id es rest))
   where
     Found : Type 0
@@ -130,20 +127,20 @@ since_at space from n (Some (records.Touch r)) le is = by_test (r.space == space
   where
     by_test : (s p : Bool) → (r.position == n) ≡ p → (s && p) ≡ true → (s && nat_le from r.position) ≡ true
     by_test true true same h = ap (nat_le from) (eqb-true r.position n same) ∙ le
-    by_test true false same h = absurd (true_false (sym h))
+    by_test true false same h = absurd (true≢false (sym h))
     by_test false p same h = h
 since_at space from n (Some _) le is = is
 
 -- and it is at its own
 at_since : (space from : ℕ) (o : Option Record) → option_map_or (is_touch_since space from) o false ≡ true → (n : ℕ) × (nat_le from n ≡ true) × (option_map_or (is_sought (TouchAt space n)) o false ≡ true)
-at_since space from None is = absurd (true_false (sym is))
+at_since space from None is = absurd (true≢false (sym is))
 at_since space from (Some (records.Touch r)) is = by_test (r.space == space) refl (nat_le from r.position) refl is
   where
     by_test : (s : Bool) → (r.space == space) ≡ s → (p : Bool) → nat_le from r.position ≡ p → (s && p) ≡ true → (n : ℕ) × (nat_le from n ≡ true) × (((r.space == space) && (r.position == n)) ≡ true)
     by_test true same true le h = (r.position, le, ap (λ b. b && (r.position == r.position)) same ∙ eq-eqb r.position r.position refl)
-    by_test true same false le h = absurd (true_false (sym h))
-    by_test false same p le h = absurd (true_false (sym h))
-at_since space from (Some _) is = absurd (true_false (sym is))
+    by_test true same false le h = absurd (true≢false (sym h))
+    by_test false same p le h = absurd (true≢false (sym h))
+at_since space from (Some _) is = absurd (true≢false (sym is))
 
 -- the ids at the positions of a workspace from one on are those of its touches from that on
 pub touches_told : (kept : Numbers Record) (x : Index) → IsIndexed kept x → (space from id : ℕ)

@@ -1,6 +1,6 @@
 -- Ids, and the records that they are of.
 use Rattle.std.proofs.Common.{◌≡◌, ℕ, ◌==◌, Bool, true, false, cond, not, ◌&&◌, ◌||◌, eqb, List, [], ◌∷◌, length, refl, sym, ap, ◌∙◌, arith}
-use Rattle.std.proofs.lemmas.Bool.{eq-eqb, ne_eqb}
+use Rattle.std.proofs.lemmas.Bool.{eq-eqb, ne_eqb, true≢false}
 use Rattle.wm_chunks.specs.Numbers.{Numbers}
 use Rattle.std.specs.Ordering.{is_eq}
 use Rattle.std.specs.List.{list_any}
@@ -33,12 +33,9 @@ some_ids p (s ∷ ss) = by_test (p s.record) (some_ids p ss)
     by_test true rest = refl
     by_test false rest = rest
 
-true_false : true ≡ false → ⊥
-true_false h = cc
-
 -- a piece is that of a version
 any_piece : (table : ℕ) (k : List Value) (rs : List Record) → list_any (is_piece_of table k) rs ≡ true → (v : ℕ) × (list_any (is_sought (PieceAt table k v)) rs ≡ true)
-any_piece table k [] some = absurd (true_false (sym some))
+any_piece table k [] some = absurd (true≢false (sym some))
 any_piece table k (r ∷ rs) some = by_test (is_piece_of table k r) refl some (one r) (any_piece table k rs)
   where
     all : (a b c : Bool) → c ≡ true → (a && b) ≡ true → (a && (b && c)) ≡ true
@@ -48,7 +45,7 @@ any_piece table k (r ∷ rs) some = by_test (is_piece_of table k r) refl some (o
 
     one : (q : Record) → is_piece_of table k q ≡ true → (v : ℕ) × (is_sought (PieceAt table k v) q ≡ true)
     one (records.Piece x) is = (x.version, all (x.cells.table == table) (is_eq (key_order x.cells.key k)) (x.version == x.version) (eq-eqb x.version x.version refl) is)
-    one _ is = absurd (true_false (sym is))
+    one _ is = absurd (true≢false (sym is))
 
     or_true : (v : ℕ) (a : Bool) → list_any (is_sought (PieceAt table k v)) rs ≡ true → (a || list_any (is_sought (PieceAt table k v)) rs) ≡ true
     or_true v true is = refl
@@ -68,7 +65,7 @@ none_told kept x is table k none = by_test (list_any (is_piece_of table k) (all_
     by_test false so = refl
     by_test true so =
         let found = any_piece table k (all_of (listed kept.entries)) so in
-        absurd (true_false
+        absurd (true≢false
         (sym found.1
         ∙ sym (some_ids (is_sought (PieceAt table k found.0)) (listed kept.entries))
         ∙ ap (λ ids. not (is_nil ids)) (sym (is.told (PieceAt table k found.0)))
