@@ -13,7 +13,7 @@ ghost use Rattle.wm_graph.specs.Rules.{keep_rules};
 ghost use Rattle.wm_spec.specs.Records.{AreRecords, record_at};
 ghost use Rattle.wm_index.specs.Hists.{AreByPosition, logged_on};
 ghost use Rattle.wm_index.specs.Kinds.{kind_at};
-ghost use Rattle.wm_index.specs.Sought.{MarksAt, MarksIn, OwnedBy, PieceAt, PiecesIn, TouchesAt, ids_with, is_sought, is_touch_since};
+ghost use Rattle.wm_index.specs.Sought.{MarksAt, MarksIn, OwnedBy, PieceAt, PiecesIn, TouchesAt, ids_with, is_sought, is_touch_since, set_found};
 ghost use Rattle.wm_index.specs.Versioned.{AreNested, AreSpanned};
 ghost use Rattle.wm_state.specs.ById.{Ascend, applied, by_id};
 ghost use Rattle.wm_image.specs.Hops.{IsHop};
@@ -34,6 +34,7 @@ use crate::records::{apply_all, clear_all};
 use crate::shown::latest_of;
 use crate::tables::after_last;
 use std::alloc::Global;
+use std::collections::BTreeSet;
 use std::marker::Model;
 use wm_base::{Key, Memory};
 use wm_catalog::Catalog;
@@ -46,7 +47,6 @@ use wm_index::kinds;
 use wm_index::records::{Kept, at, first, next_id};
 use wm_index::rows::ids_of_stamp;
 use wm_index::savepoints::{making_after, savepoint_in, savepoint_of_name};
-use wm_index::sets::ids_among;
 use wm_index::spaces::{number_after, space_of_name};
 use wm_index::tables::{id_named, table_of_number};
 use wm_index::versioned::{KeyVersions, Versioned, ids_of_version, versions_of_key};
@@ -406,20 +406,19 @@ impl Image {
         ids_of(&self.index.marks_in, &space)
     }
 
-    /// The ids of the pieces of a version, in order.
-    pub fn pieces_in(&self, alloc: Global, version: u64) -> Result<Vec<u64>, Memory>
-        ensures { IfOk result (λ ids. ids.items ≡ ids_with (is_sought (PiecesIn version)) self.now) }
+    /// The ids of the pieces of a version, in order; None where it has none.
+    pub fn pieces_in(&self, version: u64) -> Option<&BTreeSet<u64>>
+        ensures { set_found (option_copied result) ≡ ids_with (is_sought (PiecesIn version)) self.now }
     {
-        let ids = ids_among(alloc, &self.index.pieces_in, &version)?;
-        Ok(ids)
+        self.index.pieces_in.get(&version)
     }
 
-    /// The ids of all records that are a workspace's own, in order: of the workspace itself too.
-    pub fn records_of(&self, alloc: Global, space: u32) -> Result<Vec<u64>, Memory>
-        ensures { IfOk result (λ ids. ids.items ≡ ids_with (is_sought (OwnedBy space)) self.now) }
+    /// The ids of all records that are a workspace's own, in order: of the workspace itself too; None where there are
+    /// none.
+    pub fn records_of(&self, space: u32) -> Option<&BTreeSet<u64>>
+        ensures { set_found (option_copied result) ≡ ids_with (is_sought (OwnedBy space)) self.now }
     {
-        let ids = ids_among(alloc, &self.index.owned, &space)?;
-        Ok(ids)
+        self.index.owned.get(&space)
     }
 
     /// The ids of the touches of a workspace whose last entry stands in its log at a position or behind it.
@@ -434,8 +433,10 @@ impl Image {
     pub fn hists(&self, alloc: Global, space: u32, table: u16) -> Result<Vec<u64>, Memory>
         ensures { IfOk result (λ ids. AreByPosition (kind_at as_hist self.now ids.items) (logged_on space table (parts_of self.now).hists)) }
     {
-        let log = ids_among(alloc, &self.index.hists_on, &(space, table))?;
-        let ids = ids_by_position(alloc, &self.kept, log.as_slice())?;
+        let Some(log) = self.index.hists_on.get(&(space, table)) else {
+            return Ok(Vec::new(alloc));
+        };
+        let ids = ids_by_position(alloc, &self.kept, log)?;
         Ok(ids)
     }
 

@@ -14,7 +14,7 @@ ghost use Rattle.wm_index.specs.Kinds.{kind_at};
 use crate::kinds::hist_of;
 use crate::records::{Kept, at};
 use std::alloc::Global;
-use std::collections::BTreeMap;
+use std::collections::{BTreeMap, BTreeSet};
 use wm_base::Memory;
 use wm_spec::record::Hist;
 
@@ -35,8 +35,8 @@ fn place(places: &mut Places, id: u64, found: Option<&Hist>) -> Result<(), Memor
 }
 
 /// The first of some ids for each position at which an entry of them stands.
-fn places_of(alloc: Global, kept: &Kept, ids: &[u64]) -> Result<Places, Memory>
-    ensures { IfOk result (λ places. (q : ℕ) → placed_at places.entries q ≡ first_at (listed kept.now.entries) q ids.now) }
+fn places_of(alloc: Global, kept: &Kept, ids: &BTreeSet<u64>) -> Result<Places, Memory>
+    ensures { IfOk result (λ places. (q : ℕ) → placed_at places.entries q ≡ first_at (listed kept.now.entries) q ids.now.keys) }
 {
     let mut places = BTreeMap::new(alloc);
     for id in ids {
@@ -58,8 +58,8 @@ fn ids_in_order(alloc: Global, places: &Places) -> Result<Vec<u64>, Memory>
 }
 
 /// The ids of entries by position: those of some ids, and of each position the first.
-pub fn ids_by_position(alloc: Global, kept: &Kept, ids: &[u64]) -> Result<Vec<u64>, Memory>
-    ensures { IfOk result (λ found. AreByPosition (kind_at as_hist (listed kept.now.entries) found.items) (kind_at as_hist (listed kept.now.entries) ids.now)) }
+pub fn ids_by_position(alloc: Global, kept: &Kept, ids: &BTreeSet<u64>) -> Result<Vec<u64>, Memory>
+    ensures { IfOk result (λ found. AreByPosition (kind_at as_hist (listed kept.now.entries) found.items) (kind_at as_hist (listed kept.now.entries) ids.now.keys)) }
 {
     let places = places_of(alloc, kept, ids)?;
     let found = ids_in_order(alloc, &places)?;

@@ -1,6 +1,6 @@
 //! Ids in sets under keys: for what may be many, of which any may go.
 
-ghost use Rattle.std.specs.Prelude.{◌≡◌, if◌then◌else◌, IfOk, OnOk};
+ghost use Rattle.std.specs.Prelude.{◌≡◌, if◌then◌else◌, OnOk};
 ghost use Rattle.std.specs.Ordering.{is_eq};
 ghost use Rattle.wm_index.specs.Sought.{ids_among, placed, without};
 
@@ -52,25 +52,4 @@ pub fn drop_among<K: Ord + Drop>(map: &mut IdSets<K>, key: K, id: u64) -> Result
         map.insert(key, ids)?;
     }
     Ok(())
-}
-
-/// The ids of a set, in order.
-fn ids_in_set(alloc: Global, set: &BTreeSet<u64>) -> Result<Vec<u64>, Memory>
-    ensures { IfOk result (λ ids. ids.items ≡ set.now.keys) }
-{
-    let mut ids = Vec::new(alloc);
-    for id in set.iter() {
-        ids.push(*id)?;
-    }
-    Ok(ids)
-}
-
-/// The ids of the set under a key, in order.
-pub fn ids_among<K: Ord>(alloc: Global, map: &IdSets<K>, key: &K) -> Result<Vec<u64>, Memory>
-    ensures { IfOk result (λ ids. ids.items ≡ ids_among K.cmp map.now.entries key.now) }
-{
-    match map.get(key) {
-        Some(set) => ids_in_set(alloc, set),
-        None => Ok(Vec::new(alloc)),
-    }
 }

@@ -15,6 +15,7 @@ ghost use Rattle.wm_undone.specs.Restoring.{keeps_back, restored_to};
 
 use crate::batches::space_changes;
 use std::alloc::Global;
+use std::collections::BTreeSet;
 use wm_base::Memory;
 use wm_changes::DraftFault;
 use wm_changes::changes::{drop_all, put};
@@ -52,9 +53,9 @@ fn going_back(
     alloc: Global,
     image: &Image,
     savepoint: &Savepoint,
-    ids: &[u64],
+    ids: &BTreeSet<u64>,
 ) -> Result<Vec<u64>, Memory>
-    ensures { IfOk result (λ going. going.items ≡ filter (λ id. goes_back savepoint.now (record_at image.now id)) ids.now) }
+    ensures { IfOk result (λ going. going.items ≡ filter (λ id. goes_back savepoint.now (record_at image.now id)) ids.now.keys) }
 {
     let mut going = Vec::new(alloc);
     for id in ids {
@@ -70,8 +71,10 @@ fn dropped_back(alloc: Global, image: &Image, savepoint: &Savepoint) -> Result<V
     requires { Ascend image.now }
     ensures { IfOk result (λ dropped. dropped.items ≡ ids_with (λ r. not (keeps_back savepoint.now r)) image.now) }
 {
-    let own = image.records_of(alloc, savepoint.space)?;
-    let dropped = going_back(alloc, image, savepoint, own.as_slice())?;
+    let Some(own) = image.records_of(savepoint.space) else {
+        return Ok(Vec::new(alloc));
+    };
+    let dropped = going_back(alloc, image, savepoint, own)?;
     Ok(dropped)
 }
 

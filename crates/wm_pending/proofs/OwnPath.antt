@@ -1,7 +1,6 @@
 -- The walk along the versions of a workspace above the one that it sees under its own.
-use Rattle.std.proofs.Common.{◌≡◌, ℕ, ◌+◌, ◌<◌, Bool, true, false, cond, ◌||◌, ◌==◌, nat_lt, List, [], ◌∷◌, length, take, get_or, Option, None, Some, refl, sym, ap, ◌∙◌}
+use Rattle.std.proofs.Common.{◌≡◌, ℕ, ◌<◌, Bool, true, false, cond, ◌||◌, ◌==◌, nat_lt, List, [], ◌∷◌, Option, None, Some, refl, sym, ap, ◌∙◌}
 use Rattle.std.proofs.Math.Bool.{or_assoc}
-use Rattle.std.proofs.lemmas.List.{take_more}
 use Rattle.std.proofs.lemmas.List.Elements.{filter_map-append}
 use Rattle.std.proofs.lemmas.List.Folds.{list_any-append}
 use Rattle.std.proofs.lemmas.Bool.{ltb-false, ltb-true, or_parts}
@@ -79,22 +78,20 @@ one_record ss id = by_record (record_at ss id)
     by_record None = refl
     by_record (Some r) = by_kind (as_piece r)
 
--- an id more
-pub added_more : (ss : List Stored) (ids : List ℕ) (i : ℕ) (found : Option Record) (q : Place) (old loop new : Bool) → i < length ids → found ≡ record_at ss (get_or ids i 0)
-    → new ≡ (loop || has_piece_of q (option_to_list (option_and_then as_piece found))) → loop ≡ (old || has_piece_of q (kind_at as_piece ss (take i ids)))
-    → new ≡ (old || has_piece_of q (kind_at as_piece ss (take (i + 1) ids)))
-added_more ss ids i found q old loop new within is more so =
-    more
-    ∙ ap (λ b. b || has_piece_of q (option_to_list (option_and_then as_piece found))) so
-    ∙ or_assoc old (has_piece_of q (kind_at as_piece ss (take i ids))) (has_piece_of q (option_to_list (option_and_then as_piece found)))
+-- the first of the ids that are left is added
+pub added_more : (ss : List Stored) (id : ℕ) (left rest : List ℕ) (found : Option Record) (q : Place) (old new all : Bool) → left ≡ id ∷ rest → found ≡ record_at ss id
+    → new ≡ (old || has_piece_of q (option_to_list (option_and_then as_piece found))) → (old || has_piece_of q (kind_at as_piece ss left)) ≡ all → (new || has_piece_of q (kind_at as_piece ss rest)) ≡ all
+added_more ss id left rest found q old new all steps is more so =
+    ap (λ b. b || has_piece_of q (kind_at as_piece ss rest)) (more ∙ ap (λ o. old || has_piece_of q (option_to_list (option_and_then as_piece o))) is)
+    ∙ or_assoc old (has_piece_of q (option_to_list (option_and_then as_piece (record_at ss id)))) (has_piece_of q (kind_at as_piece ss rest))
     ∙ ap (λ b. old || b) (
-    ap (λ o. has_piece_of q (kind_at as_piece ss (take i ids)) || has_piece_of q (option_to_list (option_and_then as_piece o))) is
-    ∙ ap (λ xs. has_piece_of q (kind_at as_piece ss (take i ids)) || has_piece_of q xs) (sym (one_record ss (get_or ids i 0)))
-    ∙ sym (list_any-append _ (kind_at as_piece ss (take i ids)) (kind_at as_piece ss (get_or ids i 0 ∷ [])))
+    ap (λ xs. has_piece_of q xs || has_piece_of q (kind_at as_piece ss rest)) (sym (one_record ss id))
+    ∙ sym (list_any-append _ (kind_at as_piece ss (id ∷ [])) (kind_at as_piece ss rest))
     ∙ ap (has_piece_of q) (sym (
-    ap (kind_at as_piece ss) (take_more ids i 0 within)
-    ∙ ap (filter_map as_piece) (filter_map-append (record_at ss) (take i ids) (get_or ids i 0 ∷ []))
-    ∙ filter_map-append as_piece (filter_map (record_at ss) (take i ids)) (filter_map (record_at ss) (get_or ids i 0 ∷ [])))))
+    ap (filter_map as_piece) (filter_map-append (record_at ss) (id ∷ []) rest)
+    ∙ filter_map-append as_piece (filter_map (record_at ss) (id ∷ [])) (filter_map (record_at ss) rest))))
+    ∙ ap (λ xs. old || has_piece_of q (kind_at as_piece ss xs)) (sym steps)
+    ∙ so
 
 -- a key that a version has no piece of has what is held above its parent
 pub keys_more : (ss : List Stored) (a : Space) (n : ℕ) (v : Version) (ids : List ℕ) (c : Cell) (old new : Bool) (own : Option Held) → keep_rules (parts_of ss) ≡ true → Ascend ss

@@ -6,6 +6,7 @@ ghost use Rattle.std.specs.Option.{option_and_then, option_copied, option_to_lis
 ghost use Rattle.wm_graph.specs.Parts.{as_piece, parts_of};
 ghost use Rattle.wm_graph.specs.Rules.{keep_rules};
 ghost use Rattle.wm_index.specs.Kinds.{kind_at};
+ghost use Rattle.wm_index.specs.Sought.{PiecesIn, ids_with, is_sought};
 ghost use Rattle.wm_pending.specs.Keys.{Place, has_piece_of, place_order};
 ghost use Rattle.wm_spec.specs.Lists.{Cell};
 ghost use Rattle.wm_telling.specs.Telling.{own_held};
@@ -30,10 +31,13 @@ fn add_key(alloc: Global, keys: &mut TableKeys, found: Option<&Record>) -> Resul
     Ok(())
 }
 
-/// Adds the keys of the pieces among the records of some ids.
-fn add_keys(alloc: Global, image: &Image, keys: &mut TableKeys, ids: &[u64]) -> Result<(), Memory>
-    ensures { OnOk result ((q : Place) → contains place_order keys.new q ≡ (contains place_order keys.old q || has_piece_of q (kind_at as_piece image.now ids.now))) }
+/// Adds the keys of the pieces of a version.
+fn add_keys(alloc: Global, image: &Image, keys: &mut TableKeys, version: u64) -> Result<(), Memory>
+    ensures { OnOk result ((q : Place) → contains place_order keys.new q ≡ (contains place_order keys.old q || has_piece_of q (kind_at as_piece image.now (ids_with (is_sought (PiecesIn version)) image.now)))) }
 {
+    let Some(ids) = image.pieces_in(version) else {
+        return Ok(());
+    };
     for id in ids {
         add_key(alloc, keys, image.record(*id))?;
     }
@@ -50,8 +54,7 @@ pub fn own_keys(alloc: Global, image: &Image, space: &Space) -> Result<TableKeys
     let mut keys = BTreeSet::new(alloc);
     let mut number = image.latest(space.number);
     while let Some(version) = version_above(image, space.base_version, number) {
-        let pieces = image.pieces_in(alloc, number)?;
-        add_keys(alloc, image, &mut keys, pieces.as_slice())?;
+        add_keys(alloc, image, &mut keys, number)?;
         number = version.parent;
     }
     Ok(keys)

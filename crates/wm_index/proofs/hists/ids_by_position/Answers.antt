@@ -9,5 +9,5 @@ use Rattle.wm_index.proofs.hists.ids_by_position.Goals as goal
 pub returns : goal.returns
 returns c =
     let ss = listed c.args.kept.now.entries in
-    subst (λ (ids : List ℕ). AreByPosition (kind_at as_hist ss ids) (kind_at as_hist ss c.args.ids.now)) (sym c.in_ok-found.ensures.ids)
-    (by_position ss c.args.ids.now c.in_ok-places.places.entries c.in_ok-found.ensures.ordered c.in_ok-places.ensures)
+    subst (λ (ids : List ℕ). AreByPosition (kind_at as_hist ss ids) (kind_at as_hist ss c.args.ids.now.keys)) (sym c.in_ok-found.ensures.ids)
+    (by_position ss c.args.ids.now.keys c.in_ok-places.places.entries c.in_ok-found.ensures.ordered c.in_ok-places.ensures)

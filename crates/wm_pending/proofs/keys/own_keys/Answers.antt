@@ -1,6 +1,7 @@
-use Rattle.std.proofs.Common.{sym, ◌∙◌}
+use Rattle.std.proofs.Common.{refl, sym, ◌∙◌}
 use Rattle.std.specs.BTreeSet.{contains}
 use Rattle.wm_graph.specs.Parts.{parts_of}
+use Rattle.wm_index.specs.Sought.{PiecesIn, ids_with, is_sought}
 use Rattle.wm_telling.specs.Telling.{own_held}
 use Rattle.wm_pending.proofs.Above.{own_ends, own_goes_on}
 use Rattle.wm_pending.proofs.OwnPath.{keys_more}
@@ -12,8 +13,8 @@ loop-version-smaller c = (own_goes_on (parts_of c.args.image.now) c.args.space.n
 
 pub loop-version-preserved : goal.loop-version-preserved
 loop-version-preserved c = λ k out.
-    keys_more c.args.image.now c.args.space.now c.loop-version.number c.in-Some.version c.as_slice.result.now k (contains place_order c.loop-version.keys (k.table, k.key))
-    (contains place_order c.add_keys.new.keys (k.table, k.key)) (own_held (parts_of c.args.image.now) c.args.space.now k) c.requires c.law_of_order.ensures c.in-Some.ensures (c.as_slice.ensures.value ∙ c.in_ok-pieces.ensures)
+    keys_more c.args.image.now c.args.space.now c.loop-version.number c.in-Some.version (ids_with (is_sought (PiecesIn c.loop-version.number)) c.args.image.now) k (contains place_order c.loop-version.keys (k.table, k.key))
+    (contains place_order c.add_keys.new.keys (k.table, k.key)) (own_held (parts_of c.args.image.now) c.args.space.now k) c.requires c.law_of_order.ensures c.in-Some.ensures refl
     (c.in_ok-add_keys.ensures (k.table, k.key)) (c.loop-version.invariant k) out
 
 pub returns : goal.returns
