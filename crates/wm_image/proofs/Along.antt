@@ -9,7 +9,8 @@ use Rattle.wm_graph.specs.Parts.{Parts, as_piece}
 use Rattle.wm_graph.specs.Rules.{keep_rules}
 use Rattle.wm_image.proofs.Falling.{FallsBelow, below_path, not_below}
 use Rattle.wm_image.proofs.Rising.{last_spanned, last_widest}
-use Rattle.wm_image.proofs.Walking.{held-cons, ruled}
+use Rattle.wm_records.proofs.Paths.{ruled}
+use Rattle.wm_image.proofs.Walking.{held-cons}
 use Rattle.wm_image.specs.Shown.{along, entry_held, first_held, held_here, up_to}
 use Rattle.wm_index.specs.Versioned.{AreSpanned, Encloses, IsSpanned, VersionsFrom, VersionsRise, Widens, ids_under}
 use Rattle.wm_index.specs.declared.versioned.Versioned.{Versioned}

@@ -18,7 +18,7 @@ use Rattle.wm_index.specs.Indexed.{IsIndexed, listed}
 use Rattle.wm_index.specs.Kinds.{greatest}
 use Rattle.wm_index.specs.Sought.{VersionIn, is_sought, keyed_at, last_used}
 use Rattle.wm_index.specs.declared.index.Index.{Index}
-use Rattle.wm_image.proofs.Newest.{latest_in-greatest}
+use Rattle.wm_records.proofs.Newest.{latest_in-greatest}
 
 version_test : (s n : ℕ) → Tests as_version (λ (v : Version). (v.space == s) && (v.number == n)) (is_sought (VersionIn s n))
 version_test s n (records.Version v) = refl

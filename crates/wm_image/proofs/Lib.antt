@@ -1,18 +1,13 @@
 pub mod Lists
-pub mod Listed
 pub mod Loading
 pub mod Sorting
-pub mod Newest
 pub mod Walking
 pub mod Latest
 pub mod Falling
-pub mod Descending
-pub mod Hopping
 pub mod Rising
 pub mod Onward
 pub mod Along
 pub mod Naming
-pub mod Cataloguing
 pub mod Tabled
 pub mod Spans
 pub mod Spanning
@@ -20,7 +15,5 @@ pub mod Gathering
 pub mod Saved
 pub mod Spaced
 pub mod Coming
-pub mod Ascending
-pub mod Pieced
 pub mod Least
 pub mod Turned

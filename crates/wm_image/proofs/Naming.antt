@@ -10,16 +10,14 @@ use Rattle.wm_chunks.specs.Numbers.{Numbers}
 use Rattle.wm_graph.specs.Parts.{Parts, parts_of, as_table}
 use Rattle.wm_graph.specs.Rules.{keep_rules, differ, is_table}
 use Rattle.wm_spec.specs.declared.record.Record.{Record}
-use Rattle.wm_spec.specs.declared.record.Record.TheVariants as records
 use Rattle.wm_spec.specs.declared.record.table.Table.{Table}
 use Rattle.wm_state.specs.Standing.{by_number, place_table}
-use Rattle.wm_index.proofs.Finding.{Tests}
-use Rattle.wm_index.proofs.Firsts.{sought_kind, filter_all}
 use Rattle.wm_state.proofs.Apart.{ruled}
 use Rattle.wm_index.specs.Indexed.{IsIndexed, ids_at, listed}
 use Rattle.wm_index.specs.Kinds.{kind_at}
-use Rattle.wm_index.specs.Sought.{Tables, is_sought}
+use Rattle.wm_index.specs.Sought.{Tables}
 use Rattle.wm_index.specs.declared.index.Index.{Index}
+use Rattle.wm_records.proofs.Cataloguing.{tables_told}
 
 -- ---- loops over ids
 
@@ -81,14 +79,6 @@ names_differ p kept =
     (and_parts (differ same_name p.tables) (list_all is_table p.tables) g.1).0
 
 -- ---- what an index tells
-
-tables_test : Tests as_table (λ t. true) (is_sought Tables)
-tables_test (records.Table t) = refl
-tables_test _ = refl
-
-pub tables_told : (kept : Numbers Record) (x : Index) → IsIndexed kept x → kind_at as_table (listed kept.entries) (ids_at x Tables) ≡ (parts_of (listed kept.entries)).tables
-unfolding parts_of
-tables_told kept x is = sought_kind as_table (λ t. true) Tables tables_test kept x is ∙ filter_all (parts_of (listed kept.entries)).tables
 
 pub named_told : (kept : Numbers Record) (x : Index) → IsIndexed kept x → keep_rules (parts_of (listed kept.entries)) ≡ true → (name : List ℕ)
     → find (has_name name) (kind_at as_table (listed kept.entries) (ids_at x Tables)) ≡ find (has_name name) (by_number (parts_of (listed kept.entries)).tables)

@@ -2,7 +2,7 @@
 use Rattle.std.proofs.Common.{◌≡◌, ℕ, ◌<◌, ◌≤◌, ◌++◌, cond, List, [], ◌∷◌, None, refl, ap, ◌∙◌, subst, arith}
 use Rattle.std.specs.List.{AllByRecursion}
 use Rattle.wm_graph.specs.Parts.{as_piece, parts_of}
-use Rattle.wm_image.proofs.Descending.{is_on}
+use Rattle.wm_records.proofs.Descending.{is_on}
 use Rattle.wm_image.proofs.Rising.{all_last, last_newest}
 use Rattle.wm_image.specs.Shown.{entry_held, first_held}
 use Rattle.wm_index.specs.Kinds.{kind_at}

@@ -9,7 +9,7 @@ use Rattle.wm_spec.specs.declared.record.stored.Stored.{Stored}
 use Rattle.wm_spec.specs.declared.record.table.Table.{Table}
 use Rattle.wm_state.specs.Standing.{by_number, place_table}
 use Rattle.wm_state.specs.State.{next_table}
-use Rattle.wm_image.proofs.Naming.{tables_told}
+use Rattle.wm_records.proofs.Cataloguing.{tables_told}
 use Rattle.wm_index.specs.Indexed.{IsIndexed, ids_at, listed}
 use Rattle.wm_index.specs.Kinds.{kind_at}
 use Rattle.wm_index.specs.Sought.{Tables, is_sought, ids_with}

@@ -1,5 +1,5 @@
 -- What is read of the records of some ids.
-use Rattle.std.specs.Prelude.{ℕ, ◌≡◌, ◌+◌, Bool, false, nat_eq, not, ◌&&◌, ◌||◌, ◌==◌, nat_le, nat_lt, max, if◌then◌else◌, List, [], ◌∷◌, map, Option, Some, None}
+use Rattle.std.specs.Prelude.{ℕ, ◌≡◌, Bool, false, nat_eq, not, ◌&&◌, ◌||◌, ◌==◌, nat_le, nat_lt, if◌then◌else◌, List, [], ◌∷◌, map, Option, Some, None}
 use Rattle.std.specs.Bool.{then_some}
 use Rattle.std.specs.List.{filter, list_any}
 use Rattle.std.specs.Option.{option_or}
@@ -16,18 +16,12 @@ use Rattle.wm_spec.specs.declared.record.piece.PieceRecord.{PieceRecord}
 use Rattle.wm_spec.specs.declared.record.savepoint.Savepoint.{Savepoint}
 use Rattle.wm_spec.specs.declared.record.space.Space.{Space}
 use Rattle.wm_spec.specs.declared.record.stored.Stored.{Stored}
-use Rattle.wm_spec.specs.declared.record.table.Table.{Table}
 use Rattle.wm_state.specs.Standing.{held_by, stored_at}
 pub use Rattle.wm_state.specs.Firsts.{is_child_from, is_saved_behind}
 
 -- the piece is the version's own and covers the moment
 abbrev pub has_at : PieceRecord → ℕ → ℕ → Bool
 has_at x version time = (x.version == version) && (nat_le x.cells.from time && nat_lt time x.cells.till)
-
--- the greater of a number and the one after that of a table, where there is one
-abbrev pub past : ℕ → Option Table → ℕ
-past n None = n
-past n (Some t) = max n (t.number + 1)
 
 -- what a piece says of a moment, where it is a version's own and covers it
 abbrev pub held_here : Option PieceRecord → ℕ → ℕ → Option Held

@@ -16,7 +16,7 @@ ghost use Rattle.wm_index.specs.Kinds.{kind_at};
 ghost use Rattle.wm_index.specs.Sought.{MarksAt, MarksIn, OwnedBy, PieceAt, PiecesIn, TouchesAt, ids_with, is_sought, is_touch_since, set_found};
 ghost use Rattle.wm_index.specs.Versioned.{AreNested, AreSpanned};
 ghost use Rattle.wm_state.specs.ById.{Ascend, applied, by_id};
-ghost use Rattle.wm_image.specs.Hops.{IsHop};
+ghost use Rattle.wm_records.specs.Hops.{IsHop};
 ghost use Rattle.wm_image.specs.Shown.{AreKeysOf, HoldKey, is_child_from, is_saved_behind, names, rests_on};
 ghost use Rattle.wm_spec.specs.declared.record.savepoint.Savepoint.{Savepoint as OneSavepoint};
 ghost use Rattle.wm_spec.specs.declared.record.space.Space.{Space as OneSpace};
@@ -27,12 +27,9 @@ ghost use Rattle.wm_state.specs.Standing.{by_number, latest, saved_as, saved_in,
 ghost use Rattle.wm_state.specs.State.{next_table};
 
 use crate::children::{Behind, any_behind, least_child};
-use crate::hops::{Hop, Hops};
 use crate::laying::lay_key;
 use crate::load::{ImageFault, put_with_catalog, sorted};
-use crate::records::{apply_all, clear_all};
 use crate::shown::latest_of;
-use crate::tables::after_last;
 use std::alloc::Global;
 use std::collections::BTreeSet;
 use std::marker::Model;
@@ -52,6 +49,9 @@ use wm_index::tables::{id_named, table_of_number};
 use wm_index::versioned::{KeyVersions, Versioned, ids_of_version, versions_of_key};
 use wm_index::versions::version_at;
 use wm_period::Pieces;
+use wm_records::hops::{Hop, Hops};
+use wm_records::records::{apply_all, clear_all};
+use wm_records::tables::after_last;
 use wm_rules::keeps_rules;
 use wm_spec::record::{
     Batch, Counters, Record, Records, RowRecord, Savepoint, Space, Table, Version,
@@ -71,8 +71,8 @@ impl Model for Image {
     ghost use Rattle.std.specs.Prelude.{List};
     ghost use Rattle.wm_index.specs.Indexed.{listed, IsIndexed};
     ghost use Rattle.wm_graph.specs.Parts.{parts_of};
-    ghost use Rattle.wm_image.specs.Cataloged.{IsCatalog};
-    ghost use Rattle.wm_image.specs.Hops.{AreHops};
+    ghost use Rattle.wm_records.specs.Cataloged.{IsCatalog};
+    ghost use Rattle.wm_records.specs.Hops.{AreHops};
     ghost use Rattle.wm_spec.specs.declared.record.stored.Stored.{Stored};
 
     ghost Value = { List Stored };

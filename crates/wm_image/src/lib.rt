@@ -3,16 +3,13 @@
 
 pub mod children;
 mod descent;
-mod hops;
 pub mod image;
 pub mod laying;
 pub mod listing;
 pub mod load;
 mod overlap;
-pub mod records;
 pub mod shown;
 mod standing;
-pub mod tables;
 
 pub use image::Image;
 pub use load::ImageFault;

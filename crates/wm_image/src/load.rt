@@ -3,21 +3,21 @@ ghost use Rattle.std.specs.Prelude.{◌≡◌, [], map, true, false, IsTrue, IfO
 ghost use Rattle.std.specs.List.Sorted.{IsNonDecreasingBy, IsPermutation};
 ghost use Rattle.wm_index.specs.Indexed.{IsIndexed, listed};
 ghost use Rattle.wm_graph.specs.Parts.{parts_of};
-ghost use Rattle.wm_image.specs.Cataloged.{IsCatalog};
-ghost use Rattle.wm_image.specs.Hops.{AreHops};
+ghost use Rattle.wm_records.specs.Cataloged.{IsCatalog};
+ghost use Rattle.wm_records.specs.Hops.{AreHops};
 ghost use Rattle.wm_image.specs.declared.load.ImageFault.TheVariants.{Memory as OutOfMemory};
 ghost use Rattle.wm_spec.specs.Records.{AreRecords, ids_differ};
 ghost use Rattle.wm_spec.specs.declared.record.stored.Stored.{Stored as OneStored};
 ghost use Rattle.wm_state.specs.ById.{Ascend, by_id};
 
-use crate::hops::Hops;
-use crate::records::change_one;
-use crate::tables::catalog_of;
 use std::alloc::Global;
 use wm_base::Memory;
 use wm_catalog::Catalog;
 use wm_index::index::Index;
 use wm_index::records::Kept;
+use wm_records::hops::Hops;
+use wm_records::records::change_one;
+use wm_records::tables::catalog_of;
 use wm_spec::record::{Records, Stored};
 
 /// Why records make no image.

@@ -10,7 +10,7 @@ use Rattle.wm_spec.specs.declared.record.space.Space.{Space}
 use Rattle.wm_spec.specs.declared.record.stored.Stored.{Stored}
 use Rattle.wm_spec.specs.declared.record.table.Table.{Table}
 use Rattle.wm_select.specs.Query.{answer_of}
-use Rattle.wm_typing.specs.Asking.{query_fault}
+use Rattle.wm_query_faults.specs.Asking.{query_fault}
 use Rattle.wm_state.specs.State.{State, Session, Workspace, fresh_live, workspace_of}
 use Rattle.wm_state.proofs.Spaces.{space_is}
 use Rattle.wm_model.specs.Looking.{IsLook, lost_space}

@@ -4,7 +4,7 @@ use Rattle.std.proofs.lemmas.Bool.{eqb-true}
 use Rattle.std.specs.Option.{option_or}
 use Rattle.wm_graph.specs.Parts.{Parts, version_of}
 use Rattle.wm_graph.specs.Rules.{keep_rules}
-use Rattle.wm_image.proofs.Walking.{ruled, path_goes_on, path_ends}
+use Rattle.wm_records.proofs.Paths.{ruled, path_goes_on, path_ends}
 use Rattle.wm_image.specs.Shown.{along}
 use Rattle.wm_period.specs.Pieces.{Held}
 use Rattle.wm_spec.specs.Lists.{Cell}

@@ -1,12 +1,7 @@
 -- The first of several texts or sources, however they are put together.
-use Rattle.std.proofs.Common.{◌≡◌, ℕ, ◌+◌, ◌<◌, Bool, cond, List, [], ◌∷◌, length, drop, get_or, Option, None, Some, refl, ap, sym, ◌∙◌}
+use Rattle.std.proofs.Common.{◌≡◌, ℕ, ◌+◌, ◌<◌, List, ◌∷◌, length, drop, get_or, Option, None, Some, refl, ap, sym, ◌∙◌}
 use Rattle.std.proofs.lemmas.List.{drop_more}
-use Rattle.std.proofs.lemmas.List.Sums.{sum_by-cons}
-use Rattle.std.specs.List.{count_by}
 use Rattle.std.specs.Option.{option_or}
-use Rattle.wm_base.specs.Trees.{Out}
-use Rattle.wm_base.specs.Views.{out_view, outs_view}
-use Rattle.wm_base.specs.declared.tree.query.Out.{Out as OutNode}
 
 -- (an attribute of a function cannot write a name with a hyphen, as that of the plain fact has)
 pub or_none : {T : Type 0} (a : Option T) → option_or a None ≡ a
@@ -24,11 +19,3 @@ found_here F f behind step xs i x t r inside there so_far found =
     ∙ ap (λ y. F (y ∷ drop (i + 1) xs)) there
     ∙ sym (ap F (drop_more xs i x inside))
     ∙ so_far
-
--- how many items of a query pass a test, counted where they lie
-pub count_viewed : (test : Out → Bool) (outs : List OutNode) → count_by (λ out. test (out_view out)) outs ≡ count_by test (outs_view outs)
-count_viewed test [] = refl
-count_viewed test (out ∷ outs) =
-    sum_by-cons (λ o. cond (test (out_view o)) 1 0) out outs
-    ∙ ap (λ n. cond (test (out_view out)) 1 0 + n) (count_viewed test outs)
-    ∙ sym (sum_by-cons (λ o. cond (test o) 1 0) (out_view out) (outs_view outs))

@@ -1,21 +1,20 @@
 -- A condition that names nothing unknown or lacking and compares nothing mistyped is typed.
-use Rattle.std.proofs.Common.{◌≡◌, ℕ, Bool, true, false, ◌&&◌, List, [], ◌∷◌, Option, None, Some, is_some, refl, sym, ap, ◌∙◌, if◌then◌else◌}
+use Rattle.std.proofs.Common.{◌≡◌, ℕ, Bool, true, false, ◌&&◌, List, Option, None, Some, is_some, refl, sym, ap, ◌∙◌, if◌then◌else◌}
 use Rattle.std.proofs.lemmas.Bool.{and_from}
 use Rattle.std.specs.List.{list_all}
-use Rattle.wm_base.proofs.Plain.{none_mapped, none_since, option_or_parts}
+use Rattle.wm_base.proofs.Plain.{none_since, option_or_parts}
 use Rattle.wm_base.specs.declared.columns.Column.{Column}
 use Rattle.wm_base.specs.declared.tree.constant.Const.{Const}
 use Rattle.wm_base.specs.declared.tree.operand.Operand.{Operand}
 use Rattle.wm_base.specs.declared.tree.operand.Operand.TheVariants as operands
 use Rattle.wm_base.specs.Trees.{Cond, Or, And, Not, Compare, IsNull, OneOf, Between}
-use Rattle.wm_base.specs.Trees.{Query, Set, Src}
+use Rattle.wm_base.specs.Trees.{Set}
 use Rattle.wm_spec.specs.Conditions.{may_compare, typed_in, typed}
 use Rattle.wm_spec.specs.Operands.{constant_kind, operand_kind}
 use Rattle.wm_spec.specs.declared.record.table.Table.{Table}
-use Rattle.wm_typing.specs.Asking.{unknown_in_sources, mistyped_in_sources, are_sources_typed, query_fault_in}
 use Rattle.wm_typing.specs.Changing.{update_fault, delete_fault}
 use Rattle.wm_typing.specs.Columns.{columns_of_table}
-use Rattle.wm_typing.specs.Lacking.{lacking_in_operand, lacking_in_cond, lacking_in_filter, lacking_in_sources, lacking_in_query, table_meant, lacks_in_sets}
+use Rattle.wm_typing.specs.Lacking.{lacking_in_operand, lacking_in_cond, lacking_in_filter, lacks_in_sets}
 use Rattle.wm_typing.specs.Names.{named_kind, unknown_in_operand, unknown_in_cond, unknown_in_filter}
 use Rattle.wm_typing.specs.Types.{mark_text, mistyped_in_cond, mistyped_in_filter, is_filter_typed}
 use Rattle.wm_typing.proofs.ByName.{operand_is}
@@ -95,27 +94,3 @@ pub delete_typed : (table : Table) (filter : Option Cond) → delete_fault table
 unfolding delete_fault
 delete_typed table filter e =
     filter_typed _ filter (unknown_none _ _ _ _ e) (mistyped_none _ _ _ _ e) (none_since _ (fails _ table.name (lacking_none _ _ _ _ e)))
-
-each_typed : (columns : List Column) (sources : List Src) → unknown_in_sources columns sources ≡ None → mistyped_in_sources columns sources ≡ None → lacking_in_sources columns sources ≡ None →
-    are_sources_typed columns sources ≡ true
-each_typed columns [] u m l = refl
-each_typed columns (source ∷ sources) u m l =
-    and_from _ _ (filter_typed columns source.on (option_or_parts _ _ u).0 (option_or_parts _ _ m).0 (option_or_parts _ _ l).0) (each_typed columns sources (option_or_parts _ _ u).1 (option_or_parts _ _ m).1 (option_or_parts _ _ l).1)
-
--- a query that is not refused lacks no WM_VALID
-pub query_served : (columns : List Column) (query : Query) → query_fault_in columns query ≡ None → lacking_in_query columns query ≡ None
-query_served columns query e = none_mapped (λ source. table_meant query.sources source) (lacking_in_query columns query) (lacking_none _ _ _ _ e)
-
-pub query_typed : (columns : List Column) (query : Query) → query_fault_in columns query ≡ None → is_filter_typed columns query.filter ≡ true
-query_typed columns query e =
-    filter_typed columns query.filter
-    (option_or_parts _ _ (option_or_parts _ _ (option_or_parts _ _ (option_or_parts _ _ (unknown_none _ _ _ _ e)).0).1).1).0
-    (option_or_parts _ _ (option_or_parts _ _ (mistyped_none _ _ _ _ e)).1).1
-    (option_or_parts _ _ (option_or_parts _ _ (option_or_parts _ _ (query_served columns query e)).1).1).0
-
-pub sources_typed : (columns : List Column) (query : Query) → query_fault_in columns query ≡ None → are_sources_typed columns query.sources ≡ true
-sources_typed columns query e =
-    each_typed columns query.sources
-    (option_or_parts _ _ (option_or_parts _ _ (option_or_parts _ _ (unknown_none _ _ _ _ e)).0).1).0
-    (option_or_parts _ _ (option_or_parts _ _ (mistyped_none _ _ _ _ e)).1).0
-    (option_or_parts _ _ (option_or_parts _ _ (query_served columns query e)).1).0

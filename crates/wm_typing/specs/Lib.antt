@@ -3,6 +3,4 @@ pub mod Types
 pub mod Columns
 pub mod Refusals
 pub mod Changing
-pub mod Items
 pub mod Lacking
-pub mod Asking

@@ -49,6 +49,7 @@ fn lacking_name<'a>(
     }
 }
 
+/// The source of the column, where it is WM_VALID and no column is.
 pub fn lacking_col<'a>(columns: &[Column], col: &'a Col) -> Option<&'a Option<Name>>
     ensures { option_copied result ≡ lacking_col columns.now col.now }
 {

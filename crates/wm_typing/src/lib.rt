@@ -1,21 +1,15 @@
 //! Which names and types a statement gets wrong.
 #![tactic(auto)]
 
-pub mod asking;
 pub mod changing;
 pub mod columns;
-mod first;
-mod items;
-mod kinds;
-mod lacking;
-mod lacking_parts;
-mod meant;
+pub mod first;
+pub mod kinds;
+pub mod lacking;
 pub mod names;
-mod orders;
-mod refusals;
+pub mod refusals;
 pub mod types;
 
-pub use asking::query_fault;
 pub use changing::{delete_fault, may_stand, update_fault};
 pub use columns::columns_of_table;
 pub use names::{unknown_in_cond, unknown_in_expr};

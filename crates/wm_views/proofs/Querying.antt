@@ -17,7 +17,7 @@ use Rattle.wm_state.proofs.Named.{space_number}
 use Rattle.wm_state.proofs.Spaces.{ruled_spaces}
 use Rattle.wm_state.specs.State.{Session}
 use Rattle.wm_telling.specs.Telling.{AreFamily}
-use Rattle.wm_typing.specs.Asking.{query_fault}
+use Rattle.wm_query_faults.specs.Asking.{query_fault}
 use Rattle.wm_model.specs.Looking.{IsFamilyOf, IsLook, conflicting_space, space_named}
 use Rattle.wm_model.specs.Planning.{tables_in}
 use Rattle.wm_model.specs.Sources.{Look}

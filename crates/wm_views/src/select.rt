@@ -27,7 +27,7 @@ use wm_plan::answer::Answer;
 use wm_plan::planned::Planned;
 use wm_plan::refuse::{empty_period, no_history, no_table, no_workspace, not_built, versioning};
 use wm_plan::session::Session;
-use wm_typing::query_fault;
+use wm_query_faults::query_fault;
 
 /// What a query answers over what its sources show a session. These are the columns of all sources.
 fn answer_over(

@@ -1,8 +1,8 @@
 use Rattle.std.proofs.Common.{Option, is_some, sym, ap, ◌∙◌}
 use Rattle.wm_graph.specs.Parts.{parts_of}
-use Rattle.wm_image.proofs.Descending.{reached, missed}
-use Rattle.wm_image.proofs.Hopping.{there_by_hop}
-use Rattle.wm_image.proofs.Walking.{ruled}
+use Rattle.wm_records.proofs.Descending.{reached, missed}
+use Rattle.wm_records.proofs.Hopping.{there_by_hop}
+use Rattle.wm_records.proofs.Paths.{ruled}
 use Rattle.wm_spec.specs.declared.record.version.Version.{Version}
 use Rattle.wm_image.proofs.descent.is_reached.Goals as goal
 

@@ -1,8 +1,8 @@
 use Rattle.std.proofs.Common.{sym, arith}
 use Rattle.wm_graph.specs.Parts.{parts_of}
-use Rattle.wm_image.proofs.Descending.{passed, ended}
-use Rattle.wm_image.proofs.Hopping.{hopped, stepped}
-use Rattle.wm_image.proofs.Walking.{ruled, path_goes_on}
+use Rattle.wm_records.proofs.Descending.{passed, ended}
+use Rattle.wm_records.proofs.Hopping.{hopped, stepped}
+use Rattle.wm_records.proofs.Paths.{ruled, path_goes_on}
 use Rattle.wm_image.proofs.descent.step_down.Goals as goal
 
 pub returns-then-sought-hop-clause-path : goal.returns-then-sought-hop-clause-path

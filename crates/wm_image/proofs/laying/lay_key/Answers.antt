@@ -2,7 +2,7 @@ use Rattle.std.proofs.Common.{◌≡◌, ℕ, List, sym, ap, ◌∙◌, subst}
 use Rattle.std.specs.Option.{option_or}
 use Rattle.wm_graph.specs.Parts.{parts_of}
 use Rattle.wm_image.proofs.Along.{held_along, newest_held, next_entry, none_left, passed_over, rest_spanned, rest_widens, up_to_held}
-use Rattle.wm_image.proofs.Descending.{is_on}
+use Rattle.wm_records.proofs.Descending.{is_on}
 use Rattle.wm_image.proofs.Onward.{SamePath, held_alike, onward, same_path}
 use Rattle.wm_image.proofs.Rising.{up_to_rises, up_to_spanned, up_to_widens}
 use Rattle.wm_index.specs.Versioned.{AreSpanned, VersionsRise, Widens}

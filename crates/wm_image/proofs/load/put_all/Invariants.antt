@@ -1,6 +1,6 @@
 use Rattle.std.proofs.Common.{◌≡◌, []}
 use Rattle.wm_graph.specs.Parts.{parts_of}
-use Rattle.wm_image.specs.Hops.{AreHops}
+use Rattle.wm_records.specs.Hops.{AreHops}
 use Rattle.wm_image.proofs.Loading.{entered}
 use Rattle.wm_index.specs.Indexed.{IsIndexed, listed}
 use Rattle.wm_image.proofs.load.put_all.Given as goal

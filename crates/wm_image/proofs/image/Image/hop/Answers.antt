@@ -1,8 +1,8 @@
 use Rattle.std.proofs.Common.{List, subst}
 use Rattle.std.specs.Option.{IfSome}
 use Rattle.wm_graph.specs.Parts.{parts_of}
-use Rattle.wm_image.proofs.Hopping.{hop_told}
-use Rattle.wm_image.specs.Hops.{IsHop}
+use Rattle.wm_records.proofs.Hopping.{hop_told}
+use Rattle.wm_records.specs.Hops.{IsHop}
 use Rattle.wm_index.specs.Indexed.{listed}
 use Rattle.wm_spec.specs.declared.record.stored.Stored.{Stored}
 use Rattle.wm_image.proofs.image.Image.hop.Goals as goal

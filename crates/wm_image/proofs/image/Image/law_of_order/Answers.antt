@@ -1,5 +1,5 @@
 use Rattle.std.proofs.Common.{subst}
-use Rattle.wm_image.proofs.Listed.{Ascend-listed}
+use Rattle.wm_records.proofs.Listed.{Ascend-listed}
 use Rattle.wm_state.specs.ById.{Ascend}
 use Rattle.wm_image.proofs.image.Image.law_of_order.Goals as goal
 

@@ -1,6 +1,6 @@
-use Rattle.wm_image.proofs.Cataloguing.{no_catalog}
-use Rattle.wm_image.proofs.Hopping.{no_hops}
-use Rattle.wm_image.proofs.Pieced.{none_indexed}
+use Rattle.wm_records.proofs.Cataloguing.{no_catalog}
+use Rattle.wm_records.proofs.Hopping.{no_hops}
+use Rattle.wm_records.proofs.Pieced.{none_indexed}
 use Rattle.wm_index.specs.Indexed.{IsIndexed}
 use Rattle.wm_image.proofs.image.Image.new.Goals as goal
 

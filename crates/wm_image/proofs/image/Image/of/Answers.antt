@@ -1,5 +1,5 @@
-use Rattle.wm_image.proofs.Hopping.{no_hops}
-use Rattle.wm_image.proofs.Pieced.{none_indexed}
+use Rattle.wm_records.proofs.Hopping.{no_hops}
+use Rattle.wm_records.proofs.Pieced.{none_indexed}
 use Rattle.wm_image.proofs.image.Image.of.Goals as goal
 
 pub put_with_catalog-requires-clause-indexed : goal.put_with_catalog-requires-clause-indexed

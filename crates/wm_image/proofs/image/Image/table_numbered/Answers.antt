@@ -1,7 +1,7 @@
 use Rattle.std.proofs.Common.{ℕ, ◌==◌, List, ap, ◌∙◌}
 use Rattle.std.specs.List.{find}
 use Rattle.wm_graph.specs.Parts.{as_table, parts_of, table_of}
-use Rattle.wm_image.proofs.Naming.{tables_told}
+use Rattle.wm_records.proofs.Cataloguing.{tables_told}
 use Rattle.wm_index.specs.Indexed.{listed}
 use Rattle.wm_index.specs.Kinds.{kind_at}
 use Rattle.wm_spec.specs.declared.record.stored.Stored.{Stored}

@@ -1,6 +1,0 @@
-use Rattle.std.proofs.Common.{take}
-use Rattle.wm_image.proofs.Cataloguing.{Smaller}
-use Rattle.wm_image.proofs.tables.place_of.Given as goal
-
-abbrev pub invariant-loop-place : goal.invariant-loop-place
-invariant-loop-place l = Smaller l.table.number (take l.place l.tables)

@@ -1,0 +1,7 @@
+use Rattle.std.proofs.Common.{◌≡◌, drop}
+use Rattle.wm_base.specs.Views.{srcs_view}
+use Rattle.wm_query_faults.specs.Asking.{unknown_in_sources}
+use Rattle.wm_query_faults.proofs.asking.unknown_in_sources.Given as goal
+
+abbrev pub invariant-loop-source : goal.invariant-loop-source
+invariant-loop-source l = unknown_in_sources l.columns (srcs_view (drop l.source-index l.sources)) ≡ unknown_in_sources l.columns (srcs_view l.sources)

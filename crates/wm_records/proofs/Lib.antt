@@ -1,0 +1,9 @@
+pub mod Lists
+pub mod Listed
+pub mod Newest
+pub mod Paths
+pub mod Descending
+pub mod Hopping
+pub mod Cataloguing
+pub mod Ascending
+pub mod Pieced

@@ -1,7 +1,0 @@
-use Rattle.std.proofs.Common.{◌≡◌, drop}
-use Rattle.wm_base.specs.Views.{srcs_view}
-use Rattle.wm_typing.specs.Lacking.{lacking_in_sources}
-use Rattle.wm_typing.proofs.lacking_parts.lacking_in_sources.Given as goal
-
-abbrev pub invariant-loop-source : goal.invariant-loop-source
-invariant-loop-source l = lacking_in_sources l.columns (srcs_view (drop l.source-index l.sources)) ≡ lacking_in_sources l.columns (srcs_view l.sources)

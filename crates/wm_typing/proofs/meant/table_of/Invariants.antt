@@ -1,7 +1,0 @@
-use Rattle.std.proofs.Common.{◌≡◌, drop}
-use Rattle.wm_base.specs.Views.{srcs_view}
-use Rattle.wm_typing.specs.Lacking.{table_of}
-use Rattle.wm_typing.proofs.meant.table_of.Given as goal
-
-abbrev pub invariant-loop-source : goal.invariant-loop-source
-invariant-loop-source l = table_of l.name (srcs_view (drop l.source-index l.sources)) ≡ table_of l.name (srcs_view l.sources)
