@@ -22,12 +22,13 @@ use wm_changes::DraftFault;
 use wm_changes::changes::{drop_all, longer_by, put, put_all};
 use wm_changes::counts::{ids_from, stepped_by, stepped_new_by};
 use wm_image::Image;
-use wm_spec::record::{Changes, Counters, Record, Space, Version};
+use wm_spec::record::{Boxed, Changes, Counters, Record, Space, Version};
 use wm_state::edit::NewEntry;
 
 /// What is put for counters, for a workspace whose record is there, and for records that come in the place of others,
 /// behind other changes; new ids begin with this one.
 pub fn written(
+    alloc: Global,
     image: &Image,
     front: Changes,
     counters: Counters,
@@ -44,7 +45,7 @@ pub fn written(
     let Made { dropped, news } = made;
     let mut changes = front;
     changes.push(put(image.id_of_counters(), Record::Counters(counters)))?;
-    changes.push(put(space_id, Record::Space(space)))?;
+    changes.push(put(space_id, Record::Space(Boxed::new(alloc, space)?)))?;
     let pushed = drop_all(&mut changes, dropped.as_slice());
     drop(dropped);
     pushed?;
@@ -77,7 +78,7 @@ fn append_here(
     let id = ids_from(image, made.news.len() as u64)?;
     let longer = longer_by(alloc, count, space)?;
     let front = Changes::new(alloc);
-    let changes = written(image, front, counters, longer, id, made)?;
+    let changes = written(alloc, image, front, counters, longer, id, made)?;
     Ok(changes)
 }
 
@@ -120,7 +121,7 @@ fn append_above(
     let id = ids_from(image, made.news.len() as u64 + 1)?;
     let front = version_changes(alloc, id, version)?;
     let longer = longer_by(alloc, count, space)?;
-    let changes = written(image, front, counters, longer, id + 1, made)?;
+    let changes = written(alloc, image, front, counters, longer, id + 1, made)?;
     Ok(changes)
 }
 

@@ -64,15 +64,15 @@ impl<'a> Kinds<'a> {
     {
         match part {
             Record::Counters(counters) => push(&mut self.counters, counters),
-            Record::Table(table) => push(&mut self.tables, table),
-            Record::Space(space) => push(&mut self.spaces, space),
+            Record::Table(table) => push(&mut self.tables, table.get()),
+            Record::Space(space) => push(&mut self.spaces, space.get()),
             Record::Version(version) => push(&mut self.versions, version),
-            Record::Savepoint(savepoint) => push(&mut self.savepoints, savepoint),
+            Record::Savepoint(savepoint) => push(&mut self.savepoints, savepoint.get()),
             Record::Row(row) => push(&mut self.rows, row),
             Record::Piece(piece) => push(&mut self.pieces, piece),
             Record::Touch(touch) => push(&mut self.touches, touch),
-            Record::Lock(lock) => push(&mut self.locks, lock),
-            Record::Hist(hist) => push(&mut self.hists, hist),
+            Record::Lock(lock) => push(&mut self.locks, lock.get()),
+            Record::Hist(hist) => push(&mut self.hists, hist.get()),
             Record::Mark(mark) => push(&mut self.marks, mark),
             Record::Turn(turn) => push(&mut self.turns, turn),
         }

@@ -5,7 +5,8 @@ use std::alloc::Global;
 use wm_base::Memory;
 use wm_index::copies::table_copy;
 use wm_spec::record::{
-    CellRange, Change, Changes, Hist, Lock, PieceRecord, Record, RowRecord, Savepoint, Space, Trace,
+    Boxed, CellRange, Change, Changes, Hist, Lock, PieceRecord, Record, RowRecord, Savepoint,
+    Space, Trace,
 };
 
 /// A copy of a workspace.
@@ -144,15 +145,18 @@ fn record_copy(alloc: Global, old: &Record) -> Result<Record, Memory>
 {
     Ok(match old {
         Record::Counters(counters) => Record::Counters(*counters),
-        Record::Table(table) => Record::Table(table_copy(alloc, table)?),
-        Record::Space(space) => Record::Space(space_copy(alloc, space)?),
+        Record::Table(table) => Record::Table(Boxed::new(alloc, table_copy(alloc, table.get())?)?),
+        Record::Space(space) => Record::Space(Boxed::new(alloc, space_copy(alloc, space.get())?)?),
         Record::Version(version) => Record::Version(*version),
-        Record::Savepoint(savepoint) => Record::Savepoint(savepoint_copy(alloc, savepoint)?),
+        Record::Savepoint(savepoint) => {
+            let copy = savepoint_copy(alloc, savepoint.get())?;
+            Record::Savepoint(Boxed::new(alloc, copy)?)
+        }
         Record::Row(row) => Record::Row(row_copy(alloc, row)?),
         Record::Piece(piece) => Record::Piece(piece_copy(alloc, piece)?),
         Record::Touch(touch) => Record::Touch(trace_copy(alloc, touch)?),
-        Record::Lock(lock) => Record::Lock(lock_copy(alloc, lock)?),
-        Record::Hist(hist) => Record::Hist(hist_copy(alloc, hist)?),
+        Record::Lock(lock) => Record::Lock(Boxed::new(alloc, lock_copy(alloc, lock.get())?)?),
+        Record::Hist(hist) => Record::Hist(Boxed::new(alloc, hist_copy(alloc, hist.get())?)?),
         Record::Mark(mark) => Record::Mark(trace_copy(alloc, mark)?),
         Record::Turn(turn) => Record::Turn(*turn),
     })

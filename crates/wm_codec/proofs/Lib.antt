@@ -4,3 +4,4 @@ pub mod ExactFields
 pub mod ExactValues
 pub mod ExactRecords
 pub mod Appending
+pub mod Making

@@ -13,7 +13,7 @@ use crate::records::{
 };
 use std::alloc::Global;
 use wm_base::Memory;
-use wm_spec::record::Record;
+use wm_spec::record::{Boxed, Record};
 
 /// What was read, where nothing is behind it, for the record that is made of it.
 fn only<T: Drop>(read: Result<(T, &[u8]), ReadFault>) -> Result<T, ReadFault>
@@ -28,6 +28,15 @@ fn only<T: Drop>(read: Result<(T, &[u8]), ReadFault>) -> Result<T, ReadFault>
     }
 }
 
+/// What was read, where nothing is behind it, in memory of its own, for the record that is made of it.
+fn apart<T: Drop>(alloc: Global, read: Result<(T, &[u8]), ReadFault>) -> Result<Boxed<T>, ReadFault>
+    ensures { (make : T → Record) (found : Option (T × List ℕ)) → Gives (λ x. (x.0, x.1.now)) read.entry found
+        → Gives make result (option_and_then (λ x. if length x.1 == 0 then Some (make x.0) else None) found) }
+{
+    let boxed = Boxed::new(alloc, only(read)?)?;
+    Ok(boxed)
+}
+
 /// The record of a kind, by its fields.
 #[tactic(auto, unfolding(crate::specs::Reading::record_of_kind))]
 fn record_of_fields(alloc: Global, tag: u8, bytes: &[u8]) -> Result<Record, ReadFault>
@@ -35,15 +44,15 @@ fn record_of_fields(alloc: Global, tag: u8, bytes: &[u8]) -> Result<Record, Read
 {
     match tag {
         1 => only(counters_at(bytes)).map(Record::Counters),
-        2 => only(table_of(alloc, bytes)).map(Record::Table),
-        3 => only(space_of(alloc, bytes)).map(Record::Space),
+        2 => apart(alloc, table_of(alloc, bytes)).map(Record::Table),
+        3 => apart(alloc, space_of(alloc, bytes)).map(Record::Space),
         4 => only(version_at(bytes)).map(Record::Version),
-        5 => only(savepoint_of(alloc, bytes)).map(Record::Savepoint),
+        5 => apart(alloc, savepoint_of(alloc, bytes)).map(Record::Savepoint),
         6 => only(row_of(alloc, bytes)).map(Record::Row),
         7 => only(piece_of(alloc, bytes)).map(Record::Piece),
         8 => only(trace_of(alloc, bytes)).map(Record::Touch),
-        9 => only(lock_of(alloc, bytes)).map(Record::Lock),
-        10 => only(hist_of(alloc, bytes)).map(Record::Hist),
+        9 => apart(alloc, lock_of(alloc, bytes)).map(Record::Lock),
+        10 => apart(alloc, hist_of(alloc, bytes)).map(Record::Hist),
         11 => only(trace_of(alloc, bytes)).map(Record::Mark),
         12 => only(turn_at(bytes)).map(Record::Turn),
         _ => Err(ReadFault::NoRecord),

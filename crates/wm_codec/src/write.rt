@@ -242,15 +242,15 @@ fn put_record(into: &mut Bytes, what: &Record) -> Result<(), Memory>
     into.push(tag_of(what))?;
     match what {
         Record::Counters(counters) => put_counters(into, counters),
-        Record::Table(table) => put_table(into, table),
-        Record::Space(space) => put_space(into, space),
+        Record::Table(table) => put_table(into, table.get()),
+        Record::Space(space) => put_space(into, space.get()),
         Record::Version(version) => put_version(into, version),
-        Record::Savepoint(savepoint) => put_savepoint(into, savepoint),
+        Record::Savepoint(savepoint) => put_savepoint(into, savepoint.get()),
         Record::Row(row) => put_row(into, row),
         Record::Piece(piece) => put_piece(into, piece),
         Record::Touch(touch) => put_trace(into, touch),
-        Record::Lock(lock) => put_lock(into, lock),
-        Record::Hist(hist) => put_hist(into, hist),
+        Record::Lock(lock) => put_lock(into, lock.get()),
+        Record::Hist(hist) => put_hist(into, hist.get()),
         Record::Mark(mark) => put_trace(into, mark),
         Record::Turn(turn) => put_turn(into, turn),
     }

@@ -96,14 +96,14 @@ impl Index {
         match added {
             Record::Counters(_) => add_id(&mut self.counters, id),
             Record::Table(_) => add_id(&mut self.tables, id),
-            Record::Space(space) => self.add_space(alloc, id, space),
+            Record::Space(space) => self.add_space(alloc, id, space.get()),
             Record::Version(version) => self.add_version(alloc, id, version),
-            Record::Savepoint(savepoint) => self.add_savepoint(alloc, id, savepoint),
+            Record::Savepoint(savepoint) => self.add_savepoint(alloc, id, savepoint.get()),
             Record::Row(row) => add_row(alloc, &mut self.rows, row.stamp, id),
             Record::Piece(piece) => self.add_piece(alloc, id, piece),
             Record::Touch(touch) => self.add_touch(alloc, id, touch),
-            Record::Lock(lock) => add_among(alloc, &mut self.owned, lock.space, id),
-            Record::Hist(hist) => self.add_hist(alloc, id, hist),
+            Record::Lock(lock) => add_among(alloc, &mut self.owned, lock.get().space, id),
+            Record::Hist(hist) => self.add_hist(alloc, id, hist.get()),
             Record::Mark(mark) => self.add_mark(alloc, id, mark),
             Record::Turn(turn) => self.add_turn(alloc, id, turn),
         }
@@ -232,14 +232,14 @@ impl Index {
                 drop_id(&mut self.tables, id);
                 Ok(())
             }
-            Record::Space(space) => self.drop_space(id, space),
+            Record::Space(space) => self.drop_space(id, space.get()),
             Record::Version(version) => self.drop_version(id, version),
-            Record::Savepoint(savepoint) => self.drop_savepoint(id, savepoint),
+            Record::Savepoint(savepoint) => self.drop_savepoint(id, savepoint.get()),
             Record::Row(row) => drop_row(&mut self.rows, row.stamp, id),
             Record::Piece(piece) => self.drop_piece(alloc, id, piece),
             Record::Touch(touch) => self.drop_touch(alloc, id, touch),
-            Record::Lock(lock) => drop_among(&mut self.owned, lock.space, id),
-            Record::Hist(hist) => self.drop_hist(id, hist),
+            Record::Lock(lock) => drop_among(&mut self.owned, lock.get().space, id),
+            Record::Hist(hist) => self.drop_hist(id, hist.get()),
             Record::Mark(mark) => self.drop_mark(alloc, id, mark),
             Record::Turn(turn) => self.drop_turn(id, turn),
         }

@@ -21,7 +21,7 @@ pub fn table_of(found: Option<&Record>) -> Option<&Table>
     ensures { option_copied result ≡ option_and_then as_table (option_copied found.entry) }
 {
     match found {
-        Some(Record::Table(table)) => Some(table),
+        Some(Record::Table(table)) => Some(table.get()),
         _ => None,
     }
 }
@@ -30,7 +30,7 @@ pub fn space_of(found: Option<&Record>) -> Option<&Space>
     ensures { option_copied result ≡ option_and_then as_space (option_copied found.entry) }
 {
     match found {
-        Some(Record::Space(space)) => Some(space),
+        Some(Record::Space(space)) => Some(space.get()),
         _ => None,
     }
 }
@@ -48,7 +48,7 @@ pub fn savepoint_of(found: Option<&Record>) -> Option<&Savepoint>
     ensures { option_copied result ≡ option_and_then as_savepoint (option_copied found.entry) }
 {
     match found {
-        Some(Record::Savepoint(savepoint)) => Some(savepoint),
+        Some(Record::Savepoint(savepoint)) => Some(savepoint.get()),
         _ => None,
     }
 }
@@ -75,7 +75,7 @@ pub fn hist_of(found: Option<&Record>) -> Option<&Hist>
     ensures { option_copied result ≡ option_and_then as_hist (option_copied found.entry) }
 {
     match found {
-        Some(Record::Hist(hist)) => Some(hist),
+        Some(Record::Hist(hist)) => Some(hist.get()),
         _ => None,
     }
 }

@@ -7,7 +7,7 @@ use std::alloc::Global;
 use wm_base::Memory;
 use wm_changes::changes::put;
 use wm_index::copies::table_copy;
-use wm_spec::record::{Changes, Counters, Record, Savepoint, Space, Table, Turn, Version};
+use wm_spec::record::{Boxed, Changes, Counters, Record, Savepoint, Space, Table, Turn, Version};
 
 /// What becomes of the counters and of a table.
 pub fn table_changes(
@@ -21,7 +21,7 @@ pub fn table_changes(
 {
     let mut changes = Changes::new(alloc);
     changes.push(put(counters_id, Record::Counters(counters)))?;
-    changes.push(put(id, Record::Table(table)))?;
+    changes.push(put(id, Record::Table(Boxed::new(alloc, table)?)))?;
     Ok(changes)
 }
 
@@ -37,7 +37,7 @@ pub fn space_changes(
 {
     let mut changes = Changes::new(alloc);
     changes.push(put(counters_id, Record::Counters(counters)))?;
-    changes.push(put(space_id, Record::Space(space)))?;
+    changes.push(put(space_id, Record::Space(Boxed::new(alloc, space)?)))?;
     Ok(changes)
 }
 
@@ -54,12 +54,13 @@ pub fn savepoint_changes(
     ensures { IfOk result (λ changes. changes ≡ savepoint_batch counters_id counters space_id space id savepoint) }
 {
     let mut changes = space_changes(alloc, counters_id, counters, space_id, space)?;
-    changes.push(put(id, Record::Savepoint(savepoint)))?;
+    changes.push(put(id, Record::Savepoint(Boxed::new(alloc, savepoint)?)))?;
     Ok(changes)
 }
 
 /// What is put for a workspace that is born at a savepoint, beside what is put for that.
 pub fn birth_changes(
+    alloc: Global,
     saved: Changes,
     id: u64,
     child: Space,
@@ -70,7 +71,7 @@ pub fn birth_changes(
     ensures { IfOk result (λ changes. changes ≡ saved ++ put (id + 1) (records.Space child) ∷ put (id + 2) (records.Version version) ∷ put (id + 3) (records.Turn turn) ∷ []) }
 {
     let mut changes = saved;
-    changes.push(put(id + 1, Record::Space(child)))?;
+    changes.push(put(id + 1, Record::Space(Boxed::new(alloc, child)?)))?;
     changes.push(put(id + 2, Record::Version(version)))?;
     changes.push(put(id + 3, Record::Turn(turn)))?;
     Ok(changes)

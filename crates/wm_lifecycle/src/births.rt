@@ -126,6 +126,6 @@ pub fn bear(
     let counters_id = image.id_of_counters();
     let saved = savepoint_changes(alloc, counters_id, counted, space_id, new, id, savepoint)?;
     let born = born_at(alloc, image, counters, name, space, moment, point);
-    let changes = birth_changes(saved, id, born.child, born.version, born.turn)?;
+    let changes = birth_changes(alloc, saved, id, born.child, born.version, born.turn)?;
     Ok(changes)
 }

@@ -31,6 +31,7 @@ fn goes_back(savepoint: &Savepoint, found: Option<&Record>) -> bool
 {
     match found {
         Some(Record::Savepoint(other)) => {
+            let other = other.get();
             other.space == savepoint.space
                 && (other.place > savepoint.place || other.log_length > savepoint.log_length)
         }
@@ -42,6 +43,7 @@ fn goes_back(savepoint: &Savepoint, found: Option<&Record>) -> bool
             mark.space == savepoint.space && mark.place >= savepoint.place
         }
         Some(Record::Hist(hist)) => {
+            let hist = hist.get();
             hist.space == savepoint.space && hist.position >= savepoint.log_length
         }
         _ => false,

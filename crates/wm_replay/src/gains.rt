@@ -61,6 +61,7 @@ pub fn gain(
     };
     let id = ids_from(image, made.news.len() as u64)?;
     let longer = longer_by(alloc, count, old)?;
-    let changes = written(image, Changes::new(alloc), counters, longer, id, made)?;
+    let front = Changes::new(alloc);
+    let changes = written(alloc, image, front, counters, longer, id, made)?;
     Ok(changes)
 }

@@ -153,6 +153,6 @@ pub fn rebase(
     let dropped = mark_ids(alloc, image, space)?;
     let new = rebased_on(alloc, base_version, parent.log_length, old)?;
     let made = Made { dropped, news };
-    let changes = written(image, Changes::new(alloc), counters, new, id, made)?;
+    let changes = written(alloc, image, Changes::new(alloc), counters, new, id, made)?;
     Ok(changes)
 }

@@ -69,6 +69,6 @@ pub fn replay(
     let id = ids_from(image, made.news.len() as u64 + 1)?;
     let front = version_changes(alloc, id, version)?;
     let longer = longer_by(alloc, count, old)?;
-    let changes = written(image, front, counters, longer, id + 1, made)?;
+    let changes = written(alloc, image, front, counters, longer, id + 1, made)?;
     Ok(changes)
 }

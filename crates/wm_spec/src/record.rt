@@ -1,6 +1,7 @@
 //! The records of a store: one struct for each kind, and the lists of them that a store gives and takes.
 
 pub mod batch;
+pub mod boxed;
 pub mod cell_range;
 pub mod column;
 pub mod counters;
@@ -18,6 +19,7 @@ pub mod turn;
 pub mod version;
 
 pub use batch::{Batch, Change, Changes};
+pub use boxed::Boxed;
 pub use cell_range::CellRange;
 pub use column::{ColumnKind, TableColumn, TableColumns};
 pub use counters::Counters;
@@ -34,19 +36,19 @@ pub use trace::Trace;
 pub use turn::Turn;
 pub use version::Version;
 
-/// A record of the store.
+/// A record of the store. What is of a large kind lies apart, so that the records of rows take little room.
 #[derive(Drop)]
 pub enum Record {
     Counters(Counters),
-    Table(Table),
-    Space(Space),
+    Table(Boxed<Table>),
+    Space(Boxed<Space>),
     Version(Version),
-    Savepoint(Savepoint),
+    Savepoint(Boxed<Savepoint>),
     Row(RowRecord),
     Piece(PieceRecord),
     Touch(Trace),
-    Lock(Lock),
-    Hist(Hist),
+    Lock(Boxed<Lock>),
+    Hist(Boxed<Hist>),
     Mark(Trace),
     Turn(Turn),
 }

@@ -15,7 +15,7 @@ use std::alloc::Global;
 use wm_base::{Memory, Name};
 use wm_heap::Heap;
 use wm_page::PageBatch;
-use wm_spec::record::{Change, Changes, Counters, FreezeMode, Record, Space, Version};
+use wm_spec::record::{Boxed, Change, Changes, Counters, FreezeMode, Record, Space, Version};
 
 /// The workspace LIVE, with nothing in it.
 fn live_space(alloc: Global) -> Result<Space, Memory>
@@ -57,7 +57,7 @@ fn fresh(alloc: Global, limit: u32) -> Result<Changes, Memory>
         space: 0,
         parent: 0,
     };
-    let space = live_space(alloc)?;
+    let space = Boxed::new(alloc, live_space(alloc)?)?;
     let mut changes = Changes::new(alloc);
     changes.push(Change {
         id: 1,

@@ -9,7 +9,7 @@ ghost use Rattle.wm_state.specs.Touching.{marks_of};
 
 use std::alloc::Global;
 use wm_base::{Key, Kind, Memory, Period};
-use wm_spec::record::{CellRange, Hist, PieceRecord, Record, RowRecord};
+use wm_spec::record::{Boxed, CellRange, Hist, PieceRecord, Record, RowRecord};
 use wm_state::edit::NewEntry;
 
 /// Where entries come: the version that is to have them, the number of its workspace, the last place that was given there,
@@ -57,7 +57,7 @@ fn push_hist(
     if !target.history {
         return Ok(());
     }
-    hists.push(Record::Hist(Hist {
+    let hist = Hist {
         space: target.space,
         position,
         cells: cells_of(entry.table, entry.key.copy(alloc)?, entry.period),
@@ -66,7 +66,8 @@ fn push_hist(
         gone: entry.row.is_none(),
         moment: entry.moment,
         user: entry.user.copy(alloc)?,
-    }))?;
+    };
+    hists.push(Record::Hist(Boxed::new(alloc, hist)?))?;
     Ok(())
 }
 

@@ -26,5 +26,5 @@ returns c =
       sorted = c.id_of_counters.ensures.ascend;
       are = put_behind c.args.front c.push.new.self c.push-2.new.self c.drop_all-pushed.new.changes c.put_all.new.changes (put_all c.args.id c.args.made.news.items) c.put.result c.put-2.result
           (put c.id_of_counters.result (records.Counters c.args.counters)) (put c.unwrap-space_id.result (records.Space c.args.space)) c.as_slice.result.now c.args.made.dropped.items c.in_ok-push.ensures.ok c.put.ensures c.in_ok-push-2.ensures.ok
-          c.put-2.ensures c.in_ok-pushed.ensures c.as_slice.ensures.value c.in_ok-put_all.ensures;
+          (rw c.in_ok-new.ensures at c.put-2.ensures) c.in_ok-pushed.ensures c.as_slice.ensures.value c.in_ok-put_all.ensures;
     }

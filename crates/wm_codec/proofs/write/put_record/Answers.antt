@@ -11,12 +11,12 @@ returns-in-Counters c =
 pub returns-in-Table : goal.returns-in-Table
 unfolding spelling HasSpelling
 returns-in-Table c =
-    tagged c.put_table.result table 2 _ _ _ _ c.in-Table.table c.args.what.now (ap spelling c.in-Table.is) (λ fits. rw c.in-Table.is fits) c.tag_of.ensures c.in_ok-push.ensures.ok c.put_table.ensures
+    tagged c.put_table.result table 2 _ _ _ _ c.in-Table.table c.args.what.now (ap spelling c.in-Table.is) (λ fits. rw c.in-Table.is fits) c.tag_of.ensures c.in_ok-push.ensures.ok (rw c.get.ensures at c.put_table.ensures)
 
 pub returns-in-Space : goal.returns-in-Space
 unfolding spelling HasSpelling
 returns-in-Space c =
-    tagged c.put_space.result space 3 _ _ _ _ c.in-Space.space c.args.what.now (ap spelling c.in-Space.is) (λ fits. rw c.in-Space.is fits) c.tag_of.ensures c.in_ok-push.ensures.ok c.put_space.ensures
+    tagged c.put_space.result space 3 _ _ _ _ c.in-Space.space c.args.what.now (ap spelling c.in-Space.is) (λ fits. rw c.in-Space.is fits) c.tag_of.ensures c.in_ok-push.ensures.ok (rw c.get-in-Space.ensures at c.put_space.ensures)
 
 pub returns-in-Version : goal.returns-in-Version
 unfolding spelling HasSpelling
@@ -26,7 +26,7 @@ returns-in-Version c =
 pub returns-in-Savepoint : goal.returns-in-Savepoint
 unfolding spelling HasSpelling
 returns-in-Savepoint c =
-    tagged c.put_savepoint.result savepoint 5 _ _ _ _ c.in-Savepoint.savepoint c.args.what.now (ap spelling c.in-Savepoint.is) (λ fits. rw c.in-Savepoint.is fits) c.tag_of.ensures c.in_ok-push.ensures.ok c.put_savepoint.ensures
+    tagged c.put_savepoint.result savepoint 5 _ _ _ _ c.in-Savepoint.savepoint c.args.what.now (ap spelling c.in-Savepoint.is) (λ fits. rw c.in-Savepoint.is fits) c.tag_of.ensures c.in_ok-push.ensures.ok (rw c.get-in-Savepoint.ensures at c.put_savepoint.ensures)
 
 pub returns-in-Row : goal.returns-in-Row
 unfolding spelling HasSpelling
@@ -46,12 +46,12 @@ returns-in-Touch c =
 pub returns-in-Lock : goal.returns-in-Lock
 unfolding spelling HasSpelling
 returns-in-Lock c =
-    tagged c.put_lock.result lock 9 _ _ _ _ c.in-Lock.lock c.args.what.now (ap spelling c.in-Lock.is) (λ fits. rw c.in-Lock.is fits) c.tag_of.ensures c.in_ok-push.ensures.ok c.put_lock.ensures
+    tagged c.put_lock.result lock 9 _ _ _ _ c.in-Lock.lock c.args.what.now (ap spelling c.in-Lock.is) (λ fits. rw c.in-Lock.is fits) c.tag_of.ensures c.in_ok-push.ensures.ok (rw c.get-in-Lock.ensures at c.put_lock.ensures)
 
 pub returns-in-Hist : goal.returns-in-Hist
 unfolding spelling HasSpelling
 returns-in-Hist c =
-    tagged c.put_hist.result hist 10 _ _ _ _ c.in-Hist.hist c.args.what.now (ap spelling c.in-Hist.is) (λ fits. rw c.in-Hist.is fits) c.tag_of.ensures c.in_ok-push.ensures.ok c.put_hist.ensures
+    tagged c.put_hist.result hist 10 _ _ _ _ c.in-Hist.hist c.args.what.now (ap spelling c.in-Hist.is) (λ fits. rw c.in-Hist.is fits) c.tag_of.ensures c.in_ok-push.ensures.ok (rw c.get-in-Hist.ensures at c.put_hist.ensures)
 
 pub returns-in-Mark : goal.returns-in-Mark
 unfolding spelling HasSpelling

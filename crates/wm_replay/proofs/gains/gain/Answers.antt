@@ -43,9 +43,9 @@ returns-clause-drafts c =
     let drawn = c.in_ok-touches.touches.drawn.items in
     let dropped = c.in_ok-touches.touches.dropped.items in
     let k = known c.args.image.now c.args.space c.space.result c.unwrap-old.result c.requires.rules c.unwrap-old.ensures c.space.ensures in
-    drafts_gaining c.args.image.now c.args.moment c.args.work c.args.space place c.in_ok-id.id c.len-count.result c.args.entries c.unwrap-old.result.now c.in_ok-longer.longer c.counters.result c.moved-counters.result c.new.result c.in_ok-changes.changes drawn dropped
+    drafts_gaining c.args.image.now c.args.moment c.args.work c.args.space place c.in_ok-id.id c.len-count.result c.args.entries c.unwrap-old.result.now c.in_ok-longer.longer c.counters.result c.moved-counters.result c.new-front.result c.in_ok-changes.changes drawn dropped
     c.in_ok-entered.entered.hists.items c.push_traced.new.news.items c.requires.rules c.requires.work c.requires.can k.found c.counters.ensures c.in_ok-id.ensures.above k.last c.moved-counters.ensures (counted_as c.args.entries c.len-count.result c.len-count.ensures)
-    c.in_ok-longer.ensures c.new.ensures
+    c.in_ok-longer.ensures c.new-front.ensures
     (subst (λ (marks : List PieceRecord). IsRedrawn (touch_in c.args.space) c.args.image.now marks dropped drawn) (c.in_ok-entered.ensures.marks place k.last) c.in_ok-touches.ensures.redrawn)
     (record {
       touches = map records.Touch (map (trace_at c.args.space place) drawn);
@@ -62,8 +62,8 @@ returns-clause-costs c =
     let dropped = c.in_ok-touches.touches.dropped.items in
     let k = known c.args.image.now c.args.space c.space.result c.unwrap-old.result c.requires.rules c.unwrap-old.ensures c.space.ensures in
     let marks = c.in_ok-entered.ensures.marks place k.last in
-    gain_costs c.args.image.now c.args.space place c.in_ok-id.id c.len-count.result c.args.entries c.unwrap-old.result.now c.in_ok-longer.longer c.moved-counters.result c.new.result c.in_ok-changes.changes c.in_ok-entered.entered.marks.items drawn dropped
-    c.in_ok-entered.entered.hists.items c.push_traced.new.news.items k.found c.in_ok-longer.ensures c.new.ensures marks
+    gain_costs c.args.image.now c.args.space place c.in_ok-id.id c.len-count.result c.args.entries c.unwrap-old.result.now c.in_ok-longer.longer c.moved-counters.result c.new-front.result c.in_ok-changes.changes c.in_ok-entered.entered.marks.items drawn dropped
+    c.in_ok-entered.entered.hists.items c.push_traced.new.news.items k.found c.in_ok-longer.ensures c.new-front.ensures marks
     (subst (λ (xs : List PieceRecord). IsRedrawn (touch_in c.args.space) c.args.image.now xs dropped drawn) marks c.in_ok-touches.ensures.redrawn) c.in_ok-touches.ensures.few
     (record {
       touches = map records.Touch (map (trace_at c.args.space place) drawn);
