@@ -1,197 +1,190 @@
--- How many pages are put for the blobs that alter what stands under their ids.
-use Rattle.std.proofs.Common.{◌≡◌, ℕ, zero, suc, ◌+◌, ◌*◌, ◌<◌, ◌≤◌, ◌≢◌, ◌⊎◌, inl, inr, Bool, true, false, cond, ◌||◌, eqb, List, [], ◌∷◌, ◌++◌, length, get_or, take, drop, filter, Option, Some, None, is_some, refl, sym, ap, subst, ◌∙◌, arith}
+-- What is left of blobs where those go that say what stands under their ids already.
+use Rattle.std.proofs.Common.{◌≡◌, ℕ, ◌≤◌, ◌↔◌, inl, inr, Bool, true, false, cond, not, ◌||◌, eqb, List, [], ◌∷◌, ◌++◌, length, map, filter, Option, Some, None, is_some, IfSome, refl, sym, ap, subst, ◌∙◌, arith}
 use Rattle.std.specs.List.{list_any}
+use Rattle.std.specs.Option.{option_eq}
+use Rattle.std.specs.Str.{bytes_eq}
 use Rattle.std.proofs.lemmas.Bool.{eqb-true, or_parts}
-use Rattle.std.proofs.lemmas.List.{drop_more, take_more, take_all}
-use Rattle.std.proofs.lemmas.List.Filters.{length-filter_more}
-use Rattle.std.proofs.lemmas.List.Folds.{list_any_at}
-use Rattle.wm_base.proofs.Plain.{none_since}
-use Rattle.wm_page.proofs.Batches.{length-entries}
-use Rattle.wm_page.specs.Batch.{entries}
-use Rattle.wm_page.specs.declared.write.PageWrite.{PageWrite}
+use Rattle.std.proofs.lemmas.List.{append-nil}
+use Rattle.std.proofs.lemmas.List.Elements.{filter-append}
+use Rattle.std.proofs.lemmas.Slice.Eq.{bytes_eq-Decides}
+use Rattle.wm_base.proofs.Plain.{nonzero, unless_parts}
+use Rattle.wm_spec.specs.Records.{ids_differ}
 use Rattle.wm_heap.specs.declared.blob.Blob.{Blob}
 use Rattle.wm_heap.specs.declared.heap.Heap.{Heap}
-use Rattle.wm_heap.specs.declared.slot.Slot.{Slot}
-use Rattle.wm_heap.specs.Blobs.{blob_at, AreBlobs, AlterOnly, AreBytes, OverBytes, change_something}
-use Rattle.wm_heap.specs.Content.{bytes_at, slots_in, content}
-use Rattle.wm_heap.specs.Draft.{bytes_now, Grows, Done, Alters, paged}
-use Rattle.wm_heap.specs.Places.{at, place_of, page_count, IsHeapOf}
-use Rattle.wm_heap.specs.Plan.{PutsFew}
-use Rattle.wm_heap.proofs.Planning.{AreBlobs-rest, head_named, paged_none, planned_few}
-use Rattle.wm_heap.proofs.Upto.{bytes_at-all}
+use Rattle.wm_heap.specs.Blobs.{blob_at, after, alters, AreBlobs, AreBytes, AreSmall, AreSomeOf, OverBytes, change_something}
+use Rattle.wm_heap.specs.Content.{bytes_at, content}
+use Rattle.wm_heap.specs.Places.{place_of, IsHeapOf}
+use Rattle.wm_heap.specs.Plan.{IsChanged}
+use Rattle.wm_heap.proofs.Getting.{bytes_there, bytes_nowhere, page_there}
+use Rattle.wm_heap.proofs.Planning.{AreBlobs-rest}
 
--- ---- blobs one after another
+-- ---- the test of a blob
 
-AlterOnly-drop : (ids : List ℕ) (standing : ℕ → Option (List ℕ)) (i : ℕ) (blobs : List Blob) → AlterOnly ids standing blobs → AlterOnly ids standing (drop i blobs)
-AlterOnly-drop ids standing zero blobs only = only
-AlterOnly-drop ids standing (suc i) [] only = tt
-AlterOnly-drop ids standing (suc i) (b ∷ blobs) only = AlterOnly-drop ids standing i blobs only.1
+option_eq-decides : (o p : Option (List ℕ)) → (option_eq bytes_eq o p ≡ true) ↔ (o ≡ p)
+option_eq-decides None None = (λ e. refl, λ e. refl)
+option_eq-decides None (Some y) = (λ e. absurd cc, λ e. absurd cc)
+option_eq-decides (Some x) None = (λ e. absurd cc, λ e. absurd cc)
+option_eq-decides (Some x) (Some y) = (
+  λ e. ap (λ l. Some l) ((bytes_eq-Decides x y).0 e),
+  λ e. (let same : x ≡ y = cc in (bytes_eq-Decides x y).1 same),
+)
 
-AlterOnly-push : (ids : List ℕ) (standing : ℕ → Option (List ℕ)) (blobs : List Blob) (b : Blob) → AlterOnly ids standing blobs → standing b.id ≡ b.bytes → AlterOnly ids standing (blobs ++ b ∷ [])
-AlterOnly-push ids standing [] b only same = (λ out. same, tt)
-AlterOnly-push ids standing (d ∷ blobs) b only same = (only.0, AlterOnly-push ids standing blobs b only.1 same)
+-- one that says what stands there alters nothing
+pub alters_not : (standing : ℕ → Option (List ℕ)) (b : Blob) → standing b.id ≡ b.bytes → alters standing b ≡ false
+alters_not standing b same = ap not ((option_eq-decides (standing b.id) b.bytes).1 same)
 
-OverBytes-push : (standing : ℕ → Option (List ℕ)) (blobs : List Blob) (b : Blob) → OverBytes standing blobs → AreBytes (standing b.id) → OverBytes standing (blobs ++ b ∷ [])
+-- and one that alters nothing says what stands there
+pub same_unless : (standing : ℕ → Option (List ℕ)) (b : Blob) → alters standing b ≡ false → standing b.id ≡ b.bytes
+same_unless standing b e = by_test (option_eq bytes_eq (standing b.id) b.bytes) refl e
+  where
+    by_test : (t : Bool) → option_eq bytes_eq (standing b.id) b.bytes ≡ t → not t ≡ false → standing b.id ≡ b.bytes
+    by_test true f n = (option_eq-decides (standing b.id) b.bytes).0 f
+    by_test false f n = absurd cc
+
+-- a test of whether it says what stands there tells
+pub alters_told : (standing : ℕ → Option (List ℕ)) (b : Blob) (same : Bool) → ((same ≡ true) ↔ (standing b.id ≡ b.bytes)) → not same ≡ alters standing b
+alters_told standing b true tells = sym (alters_not standing b (tells.0 refl))
+alters_told standing b false tells = by_test (alters standing b) refl
+  where
+    by_test : (t : Bool) → alters standing b ≡ t → true ≡ t
+    by_test true e = refl
+    by_test false e = absurd (let yes = tells.1 (same_unless standing b e) in cc)
+
+-- where nothing stands, one that puts bytes alters
+pub alters_nowhere : (standing : ℕ → Option (List ℕ)) (b : Blob) → standing b.id ≡ None → is_some b.bytes ≡ alters standing b
+alters_nowhere standing b none = by_bytes b.bytes ∙ ap (λ (o : Option (List ℕ)). not (option_eq bytes_eq o b.bytes)) (sym none)
+  where
+    by_bytes : (o : Option (List ℕ)) → is_some o ≡ not (option_eq bytes_eq None o)
+    by_bytes None = refl
+    by_bytes (Some bytes) = refl
+
+-- and where bytes stand, one that drops them does
+pub alters_dropped : (standing : ℕ → Option (List ℕ)) (b : Blob) → is_some (standing b.id) ≡ true → b.bytes ≡ None → alters standing b ≡ true
+alters_dropped standing b some none = ap (λ (o : Option (List ℕ)). not (option_eq bytes_eq (standing b.id) o)) none ∙ by_bytes (standing b.id) some
+  where
+    by_bytes : (o : Option (List ℕ)) → is_some o ≡ true → not (option_eq bytes_eq o None) ≡ true
+    by_bytes None e = absurd cc
+    by_bytes (Some bytes) e = refl
+
+-- ---- one blob after another
+
+pub some_skipped : (some blobs : List Blob) (b : Blob) → AreSomeOf some blobs → AreSomeOf some (blobs ++ b ∷ [])
+some_skipped [] blobs b are = tt
+some_skipped (s ∷ some) [] b are = absurd are
+some_skipped (s ∷ some) (d ∷ blobs) b (inl first) = inl (first.0, some_skipped some blobs b first.1)
+some_skipped (s ∷ some) (d ∷ blobs) b (inr later) = inr (some_skipped (s ∷ some) blobs b later)
+
+pub some_pushed : (some blobs : List Blob) (b : Blob) → AreSomeOf some blobs → AreSomeOf (some ++ b ∷ []) (blobs ++ b ∷ [])
+some_pushed [] [] b are = inl (refl, tt)
+some_pushed [] (d ∷ blobs) b are = inr (some_pushed [] blobs b tt)
+some_pushed (s ∷ some) [] b are = absurd are
+some_pushed (s ∷ some) (d ∷ blobs) b (inl first) = inl (first.0, some_pushed some blobs b first.1)
+some_pushed (s ∷ some) (d ∷ blobs) b (inr later) = inr (some_pushed (s ∷ some) blobs b later)
+
+pub filter_pushed : (test : Blob → Bool) (left blobs : List Blob) (b : Blob) → left ≡ filter test blobs → test b ≡ true → left ++ b ∷ [] ≡ filter test (blobs ++ b ∷ [])
+filter_pushed test left blobs b are e =
+    let one : filter test (b ∷ []) ≡ b ∷ [] = rw e refl in
+    ap (λ l. l ++ b ∷ []) are ∙ ap (λ l. filter test blobs ++ l) (sym one) ∙ sym (filter-append test blobs (b ∷ []))
+
+pub filter_skipped : (test : Blob → Bool) (left blobs : List Blob) (b : Blob) → left ≡ filter test blobs → test b ≡ false → left ≡ filter test (blobs ++ b ∷ [])
+filter_skipped test left blobs b are e =
+    let one : filter test (b ∷ []) ≡ [] = rw e refl in
+    are ∙ sym (append-nil (filter test blobs)) ∙ ap (λ l. filter test blobs ++ l) (sym one) ∙ sym (filter-append test blobs (b ∷ []))
+
+pub OverBytes-push : (standing : ℕ → Option (List ℕ)) (blobs : List Blob) (b : Blob) → OverBytes standing blobs → (is_some b.bytes ≡ true → AreBytes (standing b.id)) → OverBytes standing (blobs ++ b ∷ [])
 OverBytes-push standing [] b over read = (read, tt)
 OverBytes-push standing (d ∷ blobs) b over read = (over.0, OverBytes-push standing blobs b over.1 read)
 
--- ---- blobs of some ids
+-- ---- what some of the blobs keep
 
-abbrev pub is_among : List ℕ → Blob → Bool
-is_among ids b = list_any (λ k. eqb k b.id) ids
+pub length-some : (some blobs : List Blob) → AreSomeOf some blobs → length some ≤ length blobs
+length-some [] blobs are = omega arith
+length-some (s ∷ some) [] are = absurd are
+length-some (s ∷ some) (b ∷ blobs) (inl first) = omega (arith, length-some some blobs first.1)
+length-some (s ∷ some) (b ∷ blobs) (inr later) = omega (arith, length-some (s ∷ some) blobs later)
 
-none_among : (blobs : List Blob) → length (filter (is_among []) blobs) ≡ 0
-none_among [] = refl
-none_among (b ∷ blobs) = none_among blobs
+pub AreSmall-some : (some blobs : List Blob) → AreSomeOf some blobs → AreSmall blobs → AreSmall some
+AreSmall-some [] blobs are small = tt
+AreSmall-some (s ∷ some) [] are small = absurd are
+AreSmall-some (s ∷ some) (b ∷ blobs) (inl first) small = (subst (λ (x : Blob). IfSome x.bytes (λ bytes. length bytes ≤ 4084)) (sym first.0) small.0, AreSmall-some some blobs first.1 small.1)
+AreSmall-some (s ∷ some) (b ∷ blobs) (inr later) small = AreSmall-some (s ∷ some) blobs later small.1
 
-either_few : (p q : Blob → Bool) (blobs : List Blob) → length (filter (λ b. p b || q b) blobs) ≤ length (filter p blobs) + length (filter q blobs)
-either_few p q [] = omega arith
-either_few p q (b ∷ blobs) = by_tests (p b) (q b) (either_few p q blobs)
+-- a test that finds none of them finds none of some
+none_found : (test : Blob → Bool) (some blobs : List Blob) → AreSomeOf some blobs → list_any test blobs ≡ false → list_any test some ≡ false
+none_found test [] blobs are none = refl
+none_found test (s ∷ some) [] are none = absurd are
+none_found test (s ∷ some) (b ∷ blobs) (inl first) none =
+    let parts = or_parts (test b) (list_any test blobs) none in
+    rw (ap test first.0 ∙ parts.0) (none_found test some blobs first.1 parts.1)
+none_found test (s ∷ some) (b ∷ blobs) (inr later) none = none_found test (s ∷ some) blobs later (or_parts (test b) (list_any test blobs) none).1
+
+-- where they change nothing, some of them change nothing
+pub change_something-some : (there : ℕ → Bool) (some blobs : List Blob) → AreSomeOf some blobs → change_something there blobs ≡ false → change_something there some ≡ false
+change_something-some there some blobs are none = none_found (λ b. is_some b.bytes || there b.id) some blobs are none
+
+any_id : (id : ℕ) (blobs : List Blob) → list_any (λ other. eqb other id) (map (λ (b : Blob). b.id) blobs) ≡ list_any (λ (b : Blob). eqb b.id id) blobs
+any_id id [] = refl
+any_id id (b ∷ blobs) = ap (λ t. eqb b.id id || t) (any_id id blobs)
+
+pub AreBlobs-some : (some blobs : List Blob) → AreSomeOf some blobs → AreBlobs blobs → AreBlobs some
+unfolding ids_differ
+AreBlobs-some [] blobs are once = refl
+AreBlobs-some (s ∷ some) [] are once = absurd are
+AreBlobs-some (s ∷ some) (b ∷ blobs) (inl first) once =
+    let parts = unless_parts (list_any (λ other. eqb other b.id) (map (λ (x : Blob). x.id) blobs)) (ids_differ (map (λ (x : Blob). x.id) blobs)) once in
+    let none : list_any (λ other. eqb other s.id) (map (λ (x : Blob). x.id) some) ≡ false =
+    any_id s.id some ∙ none_found (λ (x : Blob). eqb x.id s.id) some blobs first.1 (subst (λ (d : Blob). list_any (λ (x : Blob). eqb x.id d.id) blobs ≡ false) (sym first.0) (sym (any_id b.id blobs) ∙ parts.0)) in
+    rw none (AreBlobs-some some blobs first.1 parts.1)
+AreBlobs-some (s ∷ some) (b ∷ blobs) (inr later) once =
+    let parts = unless_parts (list_any (λ other. eqb other b.id) (map (λ (x : Blob). x.id) blobs)) (ids_differ (map (λ (x : Blob). x.id) blobs)) once in
+    AreBlobs-some (s ∷ some) blobs later parts.1
+
+-- ---- what those that alter do
+
+-- an id has a place where bytes stand under it
+pub place_told : (heap : Heap) (held : ℕ → List ℕ) (count id : ℕ) → IsHeapOf heap held count → is_some (place_of heap id) ≡ is_some (bytes_at (content held count) id)
+place_told heap held count id is_heap = by_place (place_of heap id) refl
   where
-    by_tests : (c d : Bool) → length (filter (λ b. p b || q b) blobs) ≤ length (filter p blobs) + length (filter q blobs)
-        → length (cond (c || d) (b ∷ filter (λ b. p b || q b) blobs) (filter (λ b. p b || q b) blobs)) ≤ length (cond c (b ∷ filter p blobs) (filter p blobs)) + length (cond d (b ∷ filter q blobs) (filter q blobs))
-    by_tests true true rest = omega arith
-    by_tests true false rest = omega arith
-    by_tests false true rest = omega arith
-    by_tests false false rest = rest
+    by_place : (o : Option ℕ) → place_of heap id ≡ o → is_some o ≡ is_some (bytes_at (content held count) id)
+    by_place None e = ap is_some (sym (bytes_nowhere heap held count id is_heap e))
+    by_place (Some page) e = sym (ap is_some (bytes_there heap held count id page is_heap e) ∙ (page_there heap held count id page is_heap e).2)
 
-none_named : (k : ℕ) (blobs : List Blob) → blob_at blobs k ≡ None → length (filter (λ (b : Blob). eqb k b.id) blobs) ≡ 0
-none_named k [] none = refl
-none_named k (b ∷ blobs) none = by_tests (eqb b.id k) refl (eqb k b.id) refl none (λ rest. none_named k blobs rest)
+-- each of those that alter puts bytes, or drops some that are there
+pub all_change : (there : ℕ → Bool) (standing : ℕ → Option (List ℕ)) (blobs : List Blob) → ((id : ℕ) → there id ≡ is_some (standing id)) → not (change_something there (filter (alters standing) blobs)) ≡ eqb (length (filter (alters standing) blobs)) 0
+all_change there standing [] tells = refl
+all_change there standing (b ∷ blobs) tells = by_test (alters standing b) refl (all_change there standing blobs tells)
   where
-    by_tests : (c : Bool) → eqb b.id k ≡ c → (d : Bool) → eqb k b.id ≡ d → cond c (Some b.bytes) (blob_at blobs k) ≡ None → (blob_at blobs k ≡ None → length (filter (λ (b : Blob). eqb k b.id) blobs) ≡ 0)
-        → length (cond d (b ∷ filter (λ (b : Blob). eqb k b.id) blobs) (filter (λ (b : Blob). eqb k b.id) blobs)) ≡ 0
-    by_tests true e d f n rest = absurd cc
-    by_tests false e true f n rest = absurd (let same = eqb-true k b.id f in grind (arith, same, e))
-    by_tests false e false f n rest = rest n
+    by_bytes : (o : Option (List ℕ)) → b.bytes ≡ o → (p : Option (List ℕ)) → standing b.id ≡ p → not (option_eq bytes_eq p o) ≡ true → (is_some o || is_some p) ≡ true
+    by_bytes (Some x) e p f n = refl
+    by_bytes None e (Some y) f n = refl
+    by_bytes None e None f n = absurd cc
 
-one_named : (k : ℕ) (blobs : List Blob) → AreBlobs blobs → length (filter (λ (b : Blob). eqb k b.id) blobs) ≤ 1
-one_named k [] once = omega arith
-one_named k (b ∷ blobs) once =
+    by_test : (t : Bool) → alters standing b ≡ t → not (change_something there (filter (alters standing) blobs)) ≡ eqb (length (filter (alters standing) blobs)) 0
+        → not (change_something there (cond t (b ∷ filter (alters standing) blobs) (filter (alters standing) blobs))) ≡ eqb (length (cond t (b ∷ filter (alters standing) blobs) (filter (alters standing) blobs))) 0
+    by_test true e rest = let yes : (is_some b.bytes || there b.id) ≡ true = ap (λ t. is_some b.bytes || t) (tells b.id) ∙ by_bytes b.bytes refl (standing b.id) refl e in rw yes (sym (nonzero (length (b ∷ filter (alters standing) blobs)) (omega arith)))
+    by_test false e rest = rest
+
+-- what the others say stands there already
+after_altering : (standing : ℕ → Option (List ℕ)) (blobs : List Blob) → AreBlobs blobs → (id : ℕ) → after (blob_at (filter (alters standing) blobs) id) (standing id) ≡ after (blob_at blobs id) (standing id)
+after_altering standing [] once id = refl
+after_altering standing (b ∷ blobs) once id =
     let parts = AreBlobs-rest b blobs once in
-    by_test (eqb k b.id) refl parts.0 (one_named k blobs parts.1)
+    by_test (alters standing b) refl (eqb b.id id) refl parts.0 (after_altering standing blobs parts.1 id)
   where
-    by_test : (d : Bool) → eqb k b.id ≡ d → blob_at blobs b.id ≡ None → length (filter (λ (b : Blob). eqb k b.id) blobs) ≤ 1
-        → length (cond d (b ∷ filter (λ (b : Blob). eqb k b.id) blobs) (filter (λ (b : Blob). eqb k b.id) blobs)) ≤ 1
-    by_test true e none rest = let zero_left : length (filter (λ (b : Blob). eqb k b.id) blobs) ≡ 0 = none_named k blobs (subst (λ id. blob_at blobs id ≡ None) (sym (eqb-true k b.id e)) none) in omega arith
-    by_test false e none rest = rest
+    by_test : (t : Bool) → alters standing b ≡ t → (d : Bool) → eqb b.id id ≡ d → blob_at blobs b.id ≡ None → after (blob_at (filter (alters standing) blobs) id) (standing id) ≡ after (blob_at blobs id) (standing id)
+        → after (blob_at (cond t (b ∷ filter (alters standing) blobs) (filter (alters standing) blobs)) id) (standing id) ≡ after (cond d (Some b.bytes) (blob_at blobs id)) (standing id)
+    by_test true e true f none rest = rw f refl
+    by_test true e false f none rest = rw f rest
+    by_test false e false f none rest = rest
+    by_test false e true f none rest =
+        let same = eqb-true b.id id f in
+        let gone : blob_at blobs id ≡ None = subst (λ k. blob_at blobs k ≡ None) same none in
+        rest ∙ ap (λ o. after o (standing id)) gone ∙ ap standing (sym same) ∙ same_unless standing b e
 
--- no more blobs than ids are of these ids
-among_few : (ids : List ℕ) (blobs : List Blob) → AreBlobs blobs → length (filter (is_among ids) blobs) ≤ length ids
-among_few [] blobs once = omega (arith, none_among blobs)
-among_few (k ∷ ids) blobs once =
-    omega (arith, either_few (λ (b : Blob). eqb k b.id) (is_among ids) blobs, one_named k blobs once, among_few ids blobs once)
-
--- ---- the steps
-
--- what is known before blob i of what stood under the ids, and of the pages that were put
-pub record Altering (heap : Heap) (changed : List (ℕ × List Slot)) (held : ℕ → List ℕ) (standing : ℕ → Option (List ℕ)) (blobs : List Blob) (i : ℕ) : Type 0 where
-  pub later : (id : ℕ) → is_some (blob_at (drop i blobs) id) ≡ true → bytes_now heap changed held id ≡ standing id
-  pub read : OverBytes standing (take i blobs)
-  pub few : (ids : List ℕ) → AlterOnly ids standing blobs → length changed ≤ 2 * length (filter (is_among ids) (take i blobs))
-  pub none : changed ≡ [] → AlterOnly [] standing (take i blobs)
-
-pub altering_begun : (heap : Heap) (changed : List (ℕ × List Slot)) (held : ℕ → List ℕ) (in_use : ℕ) (blobs : List Blob) → changed ≡ [] → IsHeapOf heap held in_use → Altering heap changed held (bytes_at (content held in_use)) blobs 0
-altering_begun heap changed held in_use blobs empty is_heap = record {
-  later = λ id named. ap (λ l. bytes_now heap l held id) empty ∙ sym (bytes_at-all (slots_in held) in_use (place_of heap) id is_heap.placed);
-  read = tt;
-  few = λ ids only. omega (arith, ap length empty);
-  none = λ e. tt;
+-- a store that is changed by those that alter is changed by all
+pub changed_altering : (heap : Heap) (blobs left : List Blob) (pages : List (ℕ × List ℕ)) (held : ℕ → List ℕ) (before : ℕ) → AreBlobs blobs → left ≡ filter (alters (bytes_at (content held before))) blobs → IsChanged heap left pages held before → IsChanged heap blobs pages held before
+changed_altering heap blobs left pages held before once are changed = record {
+  is_heap = changed.is_heap;
+  sound = changed.sound;
+  bytes = λ id. changed.bytes id ∙ ap (λ l. after (blob_at l id) (bytes_at (content held before) id)) are ∙ after_altering (bytes_at (content held before)) blobs once id;
 }
-
-pub altering_on : (heap new : Heap) (was now : List (ℕ × List Slot)) (held : ℕ → List ℕ) (in_use in_file : ℕ) (standing : ℕ → Option (List ℕ)) (blobs : List Blob) (i : ℕ) (b : Blob) → i < length blobs → b ≡ get_or blobs i b → AreBlobs (drop i blobs)
-    → Altering heap was held standing blobs i → Done heap new was now held in_use in_file b.id b.bytes → Alters heap was now held b.id b.bytes → length now ≤ length was + 2 → Altering new now held standing blobs (i + 1)
-altering_on heap new was now held in_use in_file standing blobs i b within is once before did alters two =
-    let rest = drop (i + 1) blobs in
-    let at_i : drop i blobs ≡ b ∷ rest = drop_more blobs i b within ∙ ap (λ x. x ∷ rest) (sym is) in
-    let up_to : take (i + 1) blobs ≡ take i blobs ++ b ∷ [] = take_more blobs i b within ∙ ap (λ x. take i blobs ++ x ∷ []) (sym is) in
-    let parts = AreBlobs-rest b rest (subst AreBlobs at_i once) in
-    let here : bytes_now heap was held b.id ≡ standing b.id = before.later b.id (subst (λ l. is_some (blob_at l b.id) ≡ true) (sym at_i) (head_named b rest)) in
-    record {
-      later = λ id named. by_id id parts.0 named (eqb id b.id) refl (λ far. before.later id (subst (λ l. is_some (blob_at l id) ≡ true) (sym at_i) far));
-      read = subst (OverBytes standing) (sym up_to) (OverBytes-push standing (take i blobs) b before.read (subst AreBytes here alters.read));
-      few = λ ids only.
-          let mine : AlterOnly ids standing (b ∷ rest) = subst (AlterOnly ids standing) at_i (AlterOnly-drop ids standing i blobs only) in
-          let more : length (filter (is_among ids) (take (i + 1) blobs)) ≡ length (filter (is_among ids) (take i blobs)) + cond (is_among ids b) 1 0 = length-filter_more (is_among ids) blobs i b within ∙ ap (λ x. length (filter (is_among ids) (take i blobs)) + cond (is_among ids x) 1 0) (sym is) in
-          rw more (by_among ids (is_among ids b) refl here (before.few ids only) mine.0 alters.pages);
-      none = λ e. subst (AlterOnly [] standing) (sym up_to) (by_pages here e alters.pages);
-    }
-  where
-    by_id : (id : ℕ) → blob_at (drop (i + 1) blobs) b.id ≡ None → is_some (blob_at (drop (i + 1) blobs) id) ≡ true → (d : Bool) → eqb id b.id ≡ d
-        → (is_some (blob_at (b ∷ drop (i + 1) blobs) id) ≡ true → bytes_now heap was held id ≡ standing id) → bytes_now new now held id ≡ standing id
-    by_id id none named true e far = absurd (let same = eqb-true id b.id e in let gone : blob_at (drop (i + 1) blobs) id ≡ None = rw same none in let f = ap is_some gone in cc)
-    by_id id none named false e far = did.bytes_are id ∙ rw e (far (by_test (eqb b.id id) named))
-      where
-        by_test : (t : Bool) → is_some (blob_at (drop (i + 1) blobs) id) ≡ true → is_some (cond t (Some b.bytes) (blob_at (drop (i + 1) blobs) id)) ≡ true
-        by_test true n = refl
-        by_test false n = n
-
-    by_among : (ids : List ℕ) (d : Bool) → is_among ids b ≡ d → bytes_now heap was held b.id ≡ standing b.id → length was ≤ 2 * length (filter (is_among ids) (take i blobs)) → (is_among ids b ≡ false → standing b.id ≡ b.bytes)
-        → ((bytes_now heap was held b.id ≡ b.bytes) × (now ≡ was)) ⊎ ((bytes_now heap was held b.id ≢ b.bytes) × (0 < length now)) → length now ≤ 2 * (length (filter (is_among ids) (take i blobs)) + cond d 1 0)
-    by_among ids true e here few only pages = omega (arith, few, two)
-    by_among ids false e here few only (inl kept) = omega (arith, few, ap length kept.1)
-    by_among ids false e here few only (inr other) = absurd (other.0 (here ∙ only e))
-
-    by_pages : bytes_now heap was held b.id ≡ standing b.id → now ≡ [] → ((bytes_now heap was held b.id ≡ b.bytes) × (now ≡ was)) ⊎ ((bytes_now heap was held b.id ≢ b.bytes) × (0 < length now)) → AlterOnly [] standing (take i blobs ++ b ∷ [])
-    by_pages here e (inl kept) = AlterOnly-push [] standing (take i blobs) b (before.none (sym kept.1 ∙ e)) (sym here ∙ kept.0)
-    by_pages here e (inr other) = absurd (let some = other.1 in omega (arith, ap length e))
-
--- ---- blobs that only drop ids without a place
-
-idle_at : (there : ℕ → Bool) (blobs : List Blob) (i : ℕ) (b : Blob) → i < length blobs → b ≡ get_or blobs i b → change_something there blobs ≡ false → (is_some b.bytes ≡ false) × (there b.id ≡ false)
-idle_at there blobs i b within is nothing = or_parts (is_some b.bytes) (there b.id) (by_test (is_some b.bytes || there b.id) refl)
-  where
-    by_test : (t : Bool) → (is_some b.bytes || there b.id) ≡ t → t ≡ false
-    by_test false e = refl
-    by_test true e =
-        absurd (let some : change_something there blobs ≡ true = list_any_at (λ (x : Blob). is_some x.bytes || there x.id) blobs i b within (subst (λ (x : Blob). (is_some x.bytes || there x.id) ≡ true) is e) in
-        cc)
-
--- no page was put, and each id has the place that it had
-pub record Idle (old heap : Heap) (changed : List (ℕ × List Slot)) : Type 0 where
-  pub none : changed ≡ []
-  pub places : heap.places.entries ≡ old.places.entries
-
-pub idle_on : (old heap new : Heap) (was now : List (ℕ × List Slot)) (blobs : List Blob) (i : ℕ) (b : Blob) → i < length blobs → b ≡ get_or blobs i b → change_something (λ id. is_some (place_of old id)) blobs ≡ false → Idle old heap was
-    → (place_of heap b.id ≡ None → b.bytes ≡ None → now ≡ was) → (place_of heap b.id ≡ None → b.bytes ≡ None → new.places.entries ≡ heap.places.entries) → Idle old new now
-idle_on old heap new was now blobs i b within is nothing idle kept same =
-    let parts = idle_at (λ id. is_some (place_of old id)) blobs i b within is nothing in
-    let place : place_of heap b.id ≡ None = ap (λ l. at l b.id) idle.places ∙ none_since (place_of old b.id) parts.1 in
-    let bytes : b.bytes ≡ None = none_since b.bytes parts.0 in
-    record { none = kept place bytes ∙ idle.none; places = same place bytes ∙ idle.places }
-
--- ---- as the calls say it
-
-empty : {A : Type 0} (xs : List A) → eqb (length xs) 0 ≡ true → xs ≡ []
-empty [] e = refl
-empty (x ∷ xs) e = absurd (let f = eqb-true (length (x ∷ xs)) 0 e in omega arith)
-
-counted : (old heap : Heap) (changed : List (ℕ × List Slot)) (before count : ℕ) (pages : List PageWrite) → before ≡ page_count old → count ≡ page_count heap → entries pages ≡ paged before count changed → Grows (page_count old) (page_count heap) [] changed
-    → eqb (length pages) 0 ≡ eqb (length changed) 0
-counted old heap changed before count pages before_is count_is pages_are grows =
-    ap (λ n. eqb n 0) (sym (length-entries pages) ∙ ap length (pages_are ∙ ap (λ n. paged n count changed) before_is ∙ ap (λ n. paged (page_count old) n changed) count_is))
-    ∙ paged_none (page_count old) (page_count heap) changed grows
-
-pub idle_pages : (old heap : Heap) (changed : List (ℕ × List Slot)) (before count : ℕ) (pages : List PageWrite) → before ≡ page_count old → count ≡ page_count heap → entries pages ≡ paged before count changed → Grows (page_count old) (page_count heap) [] changed
-    → Idle old heap changed → pages ≡ []
-idle_pages old heap changed before count pages before_is count_is pages_are grows idle =
-    empty pages (counted old heap changed before count pages before_is count_is pages_are grows ∙ ap (λ l. eqb (length l) 0) idle.none)
-
-pub altered : (old heap : Heap) (changed : List (ℕ × List Slot)) (held : ℕ → List ℕ) (standing : ℕ → Option (List ℕ)) (blobs : List Blob) (i before count : ℕ) (pages : List PageWrite) → before ≡ page_count old → count ≡ page_count heap → entries pages ≡ paged before count changed
-    → length blobs ≤ i → AreBlobs blobs → Grows (page_count old) (page_count heap) [] changed → Altering heap changed held standing blobs i → PutsFew blobs pages standing
-altered old heap changed held standing blobs i before count pages before_is count_is pages_are end once grows altering = record {
-  none = (
-    λ none. subst (AlterOnly [] standing) all (altering.none (empty changed (sym pages_none ∙ ap (λ (ps : List PageWrite). eqb (length ps) 0) none))),
-    λ only. empty pages (pages_none ∙ (let few : length changed ≤ 2 * length (filter (is_among []) (take i blobs)) = altering.few [] only in let zero_is = none_among (take i blobs) in grind (arith, few, zero_is))),
-  );
-  few = λ ids only.
-      planned_few changed before count (length (filter (is_among ids) blobs)) (length ids) pages pages_are
-      (subst (λ bs. length changed ≤ 2 * length (filter (is_among ids) bs)) all (altering.few ids only)) (among_few ids blobs once);
-  read = subst (OverBytes standing) all altering.read;
-}
-  where
-    all : take i blobs ≡ blobs
-    all = take_all i blobs end
-
-    pages_none : eqb (length pages) 0 ≡ eqb (length changed) 0
-    pages_none = counted old heap changed before count pages before_is count_is pages_are grows

@@ -1,5 +1,5 @@
 -- From the steps of a change to its pages.
-use Rattle.std.proofs.Common.{◌≡◌, ℕ, ◌+◌, ◌-◌, ◌*◌, ◌<◌, ◌≤◌, ◌⊎◌, inl, inr, ⊎_elim, Bool, true, false, cond, eqb, ltb, List, [], ◌∷◌, ◌++◌, length, get_or, drop, map, Option, Some, None, is_some, unwrap_or, IfSome, refl, sym, ap, subst, ◌∙◌, arith}
+use Rattle.std.proofs.Common.{◌≡◌, ℕ, ◌+◌, ◌-◌, ◌*◌, ◌<◌, ◌≤◌, ◌⊎◌, inl, inr, ⊎_elim, Bool, true, false, cond, not, ◌&&◌, ◌||◌, eqb, ltb, List, [], ◌∷◌, ◌++◌, length, get_or, drop, map, Option, Some, None, is_some, unwrap_or, IfSome, refl, sym, ap, subst, ◌∙◌, arith}
 use Rattle.std.specs.Option.{option_and_then}
 use Rattle.std.specs.List.{list_any, AllByRecursion}
 use Rattle.std.specs.List.Sorted.{IsStrictlySortedBy}
@@ -20,7 +20,7 @@ use Rattle.wm_heap.specs.declared.heap.Heap.{Heap}
 use Rattle.wm_heap.specs.declared.slot.Slot.{Slot}
 use Rattle.wm_heap.specs.Slots.{slots_of, page_of}
 use Rattle.wm_heap.specs.Content.{bytes_at, slots_in, content}
-use Rattle.wm_heap.specs.Blobs.{blob_at, after, AreBlobs, AreSmall}
+use Rattle.wm_heap.specs.Blobs.{blob_at, after, AreBlobs, AreSmall, change_something}
 use Rattle.wm_heap.specs.Places.{at, ids_of, place_of, page_count, Once, IsPlaced, IsHeapOf}
 use Rattle.wm_heap.specs.Plan.{root_of, IsPlan, IsChanged, laid}
 use Rattle.wm_heap.specs.Draft.{slots_now, bytes_now, HasRoom, IsThere, Stands, Grows, Goes, Done, written, rooted, paged}
@@ -47,6 +47,8 @@ pub record Going (old heap : Heap) (changed : List (ℕ × List Slot)) (blobs : 
   pub grows : Grows (page_count old) (page_count heap) [] changed
   pub once : AreBlobs (drop i blobs)
   pub small : AreSmall (drop i blobs)
+  pub later : (id : ℕ) → is_some (blob_at (drop i blobs) id) ≡ true → place_of heap id ≡ place_of old id
+  pub nothing : (eqb (length changed) 0 && not (change_something (λ id. is_some (place_of old id)) (drop i blobs))) ≡ not (change_something (λ id. is_some (place_of old id)) blobs)
 
 pub going_begun : (old : Heap) (changed : List (ℕ × List Slot)) (blobs : List Blob) → changed ≡ [] → AreBlobs blobs → AreSmall blobs → Going old old changed blobs 0
 going_begun old changed blobs empty once small = record {
@@ -54,9 +56,11 @@ going_begun old changed blobs empty once small = record {
   grows = subst (λ l. Grows (page_count old) (page_count old) [] l) (sym empty) (Grows-none (page_count old) []);
   once = once;
   small = small;
+  later = λ id e. refl;
+  nothing = rw empty refl;
 }
 
-pub head_named : (b : Blob) (blobs : List Blob) → is_some (blob_at (b ∷ blobs) b.id) ≡ true
+head_named : (b : Blob) (blobs : List Blob) → is_some (blob_at (b ∷ blobs) b.id) ≡ true
 head_named b blobs = let t : eqb b.id b.id ≡ true = grind arith in rw t refl
 
 pub head_small : (b : Blob) (blobs : List Blob) (i : ℕ) → i < length blobs → b ≡ get_or blobs i b → AreSmall (drop i blobs) → IfSome b.bytes (λ bytes. length bytes ≤ 4084)
@@ -65,18 +69,49 @@ head_small b blobs i within is small =
     let all : AreSmall (b ∷ drop (i + 1) blobs) = subst AreSmall at_i small in
     all.0
 
-pub going_on : (old heap new : Heap) (was now : List (ℕ × List Slot)) (blobs : List Blob) (i : ℕ) (b : Blob) → i < length blobs → b ≡ get_or blobs i b → Going old heap was blobs i → Goes heap new was now b.id → Going old new now blobs (i + 1)
+pub going_on : (old heap new : Heap) (was now : List (ℕ × List Slot)) (blobs : List Blob) (i : ℕ) (b : Blob) → i < length blobs → b ≡ get_or blobs i b → Going old heap was blobs i
+    → Goes heap new was now b.id (is_some b.bytes || is_some (place_of heap b.id)) → Going old new now blobs (i + 1)
 going_on old heap new was now blobs i b within is going goes =
+    let there = λ (id : ℕ). is_some (place_of old id) in
     let rest = drop (i + 1) blobs in
     let at_i : drop i blobs ≡ b ∷ rest = drop_more blobs i b within ∙ ap (λ x. x ∷ rest) (sym is) in
     let parts = AreBlobs-rest b rest (subst AreBlobs at_i going.once) in
     let all_small : AreSmall (b ∷ rest) = subst AreSmall at_i going.small in
+    let place_is : place_of heap b.id ≡ place_of old b.id = going.later b.id (subst (λ l. is_some (blob_at l b.id) ≡ true) (sym at_i) (head_named b rest)) in
+    let before : (eqb (length was) 0 && not (change_something there (b ∷ rest))) ≡ not (change_something there blobs) = subst (λ l. (eqb (length was) 0 && not (change_something there l)) ≡ not (change_something there blobs)) at_i going.nothing in
     record {
       room = goes.room;
       grows = Grows-then (page_count old) (page_count heap) (page_count new) [] was now going.grows goes.grows;
       once = parts.1;
       small = all_small.1;
+      later = λ id named. by_id id parts.0 named (eqb id b.id) refl (λ far. going.later id (subst (λ l. is_some (blob_at l id) ≡ true) (sym at_i) far));
+      nothing = by_touch (is_some b.bytes || is_some (place_of heap b.id)) refl (ap (λ o. is_some b.bytes || is_some o) place_is) ∙ before;
     }
+  where
+    by_id : (id : ℕ) → blob_at (drop (i + 1) blobs) b.id ≡ None → is_some (blob_at (drop (i + 1) blobs) id) ≡ true → (d : Bool) → eqb id b.id ≡ d
+        → (is_some (blob_at (b ∷ drop (i + 1) blobs) id) ≡ true → place_of heap id ≡ place_of old id) → place_of new id ≡ place_of old id
+    by_id id none named true e far = absurd (let same = eqb-true id b.id e in let gone : blob_at (drop (i + 1) blobs) id ≡ None = rw same none in let f = ap is_some gone in cc)
+    by_id id none named false e far = goes.others id e ∙ far (by_test (eqb b.id id) named)
+      where
+        by_test : (t : Bool) → is_some (blob_at (drop (i + 1) blobs) id) ≡ true → is_some (cond t (Some b.bytes) (blob_at (drop (i + 1) blobs) id)) ≡ true
+        by_test true n = refl
+        by_test false n = n
+
+    by_touch : (t : Bool) → (is_some b.bytes || is_some (place_of heap b.id)) ≡ t → (is_some b.bytes || is_some (place_of heap b.id)) ≡ (is_some b.bytes || is_some (place_of old b.id))
+        → (eqb (length now) 0 && not (change_something (λ id. is_some (place_of old id)) (drop (i + 1) blobs))) ≡ (eqb (length was) 0 && not (change_something (λ id. is_some (place_of old id)) (b ∷ drop (i + 1) blobs)))
+    by_touch true e same =
+        let some = goes.some e in
+        let full : eqb (length now) 0 ≡ false = grind arith in
+        let touched : (is_some b.bytes || is_some (place_of old b.id)) ≡ true = sym same ∙ e in
+        rw (full, touched) (by_zero (eqb (length was) 0))
+      where
+        by_zero : (z : Bool) → false ≡ (z && false)
+        by_zero true = refl
+        by_zero false = refl
+    by_touch false e same =
+        let still = goes.none e in
+        let touched : (is_some b.bytes || is_some (place_of old b.id)) ≡ false = sym same ∙ e in
+        rw (still, touched) refl
 
 -- what is known besides where the pages are told
 pub record Telling (heap : Heap) (changed : List (ℕ × List Slot)) (held : ℕ → List ℕ) (in_use in_file : ℕ) (blobs : List Blob) (i : ℕ) : Type 0 where
@@ -228,7 +263,7 @@ plan_is before count changed grows reads enough = record {
     root_by false free = free
 
 -- as many pages as were put, and page 1 where there are more than before
-pub paged_none : (before count : ℕ) (changed : List (ℕ × List Slot)) → Grows before count [] changed → eqb (length (paged before count changed)) 0 ≡ eqb (length changed) 0
+paged_none : (before count : ℕ) (changed : List (ℕ × List Slot)) → Grows before count [] changed → eqb (length (paged before count changed)) 0 ≡ eqb (length changed) 0
 paged_none before count changed grows = by_test (ltb before count) refl changed (λ more. grows.grown before (omega arith) (ltb-true before count more))
   where
     by_test : (b : Bool) → ltb before count ≡ b → (xs : List (ℕ × List Slot)) → (ltb before count ≡ true → is_some (at xs before) ≡ true) → eqb (length (rooted b count ++ written xs)) 0 ≡ eqb (length xs) 0
@@ -315,6 +350,21 @@ planned old heap changed blobs i before count pages before_is count_is pages_are
     let here : entries pages ≡ paged (page_count old) (page_count heap) changed = pages_are ∙ ap (λ n. paged n count changed) before_is ∙ ap (λ n. paged (page_count old) n changed) count_is in
     let root : page_count old < page_count heap → number_at (root_of (page_count heap)) 0 ≡ page_count heap = λ more. subst (λ n. number_at (root_of n) 0 ≡ n) count_is (reads (omega arith)) in
     subst (λ es. IsPlan (page_count old) (page_count heap) es) (sym here) (plan_is (page_count old) (page_count heap) changed going.grows root (omega arith))
+
+-- at the end nothing is left to change
+all_gone : (b : Bool) (blobs : List Blob) (there : ℕ → Bool) → blobs ≡ [] → (b && not (change_something there blobs)) ≡ b
+all_gone b [] there none = by_case b
+  where
+    by_case : (b : Bool) → (b && true) ≡ b
+    by_case true = refl
+    by_case false = refl
+all_gone b (x ∷ blobs) there none = absurd (let f = ap length none in omega (arith, f))
+
+pub planned_none : (old heap : Heap) (changed : List (ℕ × List Slot)) (blobs : List Blob) (i before count : ℕ) (pages : List PageWrite) → before ≡ page_count old → count ≡ page_count heap → entries pages ≡ paged before count changed → length blobs ≤ i → Going old heap changed blobs i
+    → eqb (length pages) 0 ≡ not (change_something (λ id. is_some (place_of old id)) blobs)
+planned_none old heap changed blobs i before count pages before_is count_is pages_are end going =
+    ap (λ n. eqb n 0) (sym (length-entries pages) ∙ ap length (pages_are ∙ ap (λ n. paged n count changed) before_is ∙ ap (λ n. paged (page_count old) n changed) count_is))
+    ∙ paged_none (page_count old) (page_count heap) changed going.grows ∙ sym (all_gone (eqb (length changed) 0) (drop i blobs) (λ id. is_some (place_of old id)) (drop_all i blobs end)) ∙ going.nothing
 
 pub planned_told : (heap : Heap) (changed : List (ℕ × List Slot)) (held : ℕ → List ℕ) (in_use in_file : ℕ) (blobs : List Blob) (i before count : ℕ) (pages : List PageWrite) → count ≡ page_count heap → entries pages ≡ paged before count changed → length blobs ≤ i → ReadsAgain changed
     → Telling heap changed held in_use in_file blobs i → IsChanged heap blobs (entries pages) held in_use

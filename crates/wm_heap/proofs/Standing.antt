@@ -1,15 +1,14 @@
 -- How the pages of a change, and the places of the ids in them, stand after each step.
-use Rattle.std.proofs.Common.{◌≡◌, ℕ, suc, ◌+◌, ◌<◌, ◌≤◌, ◌≢◌, max, ◌⊎◌, inl, inr, ⊎_elim, Bool, true, false, cond, not, eqb, List, [], ◌∷◌, ◌++◌, length, filter, Option, Some, None, is_some, unwrap_or, Result, Ok, Err, OnOk, refl, sym, ap, subst, ◌∙◌, arith}
+use Rattle.std.proofs.Common.{◌≡◌, ℕ, suc, ◌+◌, ◌<◌, ◌≤◌, max, ◌⊎◌, inl, inr, ⊎_elim, Bool, true, false, cond, not, eqb, List, [], ◌∷◌, ◌++◌, length, filter, Option, Some, None, is_some, unwrap_or, Result, Ok, Err, OnOk, refl, sym, ap, subst, ◌∙◌, arith}
 use Rattle.std.specs.Option.{option_and_then}
 use Rattle.std.proofs.lemmas.Bool.{cases_lt, eqb-true, eq-eqb}
 use Rattle.wm_base.proofs.Plain.{none_since}
 use Rattle.wm_heap.specs.declared.slot.Slot.{Slot}
 use Rattle.wm_heap.specs.declared.heap.Heap.{Heap}
 use Rattle.wm_heap.specs.Slots.{used}
-use Rattle.wm_heap.specs.Blobs.{AreBytes}
 use Rattle.wm_heap.specs.Content.{bytes_at, slots_in}
 use Rattle.wm_heap.specs.Places.{at, ids_on, ids_of, place_of, page_count, Once, IsPlaced}
-use Rattle.wm_heap.specs.Draft.{slots_now, bytes_now, HasRoom, IsThere, Stands, Puts, Grows, Goes, Done, Alters, slots_with, place_with}
+use Rattle.wm_heap.specs.Draft.{slots_now, bytes_now, HasRoom, IsThere, Stands, Puts, Grows, Goes, Done, slots_with, place_with}
 use Rattle.wm_heap.proofs.Finding.{none_is, bytes_at-push, bytes_at-without, Once-push, Once-without}
 use Rattle.wm_heap.proofs.Upto.{away}
 
@@ -304,18 +303,22 @@ puts_set page id slots place old mid new was now puts same ids_are set = record 
   places = λ j. set j ∙ ap (λ o. cond (eqb j id) place o) (ap (λ m. at m.entries j) same);
 }
 
-pub put_goes : (page id : ℕ) (slots : List Slot) (place : Option ℕ) (old new : Heap) (was now : List (ℕ × List Slot)) → Puts page slots id place old new was now → 2 ≤ page → page ≤ page_count old → used slots ≤ 4096 → HasRoom was → Goes old new was now id
+pub put_goes : (page id : ℕ) (slots : List Slot) (place : Option ℕ) (old new : Heap) (was now : List (ℕ × List Slot)) → Puts page slots id place old new was now → 2 ≤ page → page ≤ page_count old → used slots ≤ 4096 → HasRoom was → Goes old new was now id true
 put_goes page id slots place old new was now puts from till fits room = record {
   room = HasRoom-puts page id slots place old new was now puts fits room;
   grows = Grows-puts page id slots place old new was now puts from till;
   others = λ j e. puts.places j ∙ rw e refl;
+  some = λ e. put_some page id slots place old new was now puts;
+  none = λ e. absurd cc;
 }
 
-pub goes_then : (a b c : Heap) (x y z : List (ℕ × List Slot)) (id : ℕ) → Goes a b x y id → Goes b c y z id → Goes a c x z id
+pub goes_then : (a b c : Heap) (x y z : List (ℕ × List Slot)) (id : ℕ) → Goes a b x y id true → Goes b c y z id true → Goes a c x z id true
 goes_then a b c x y z id one two = record {
   room = two.room;
   grows = Grows-then (page_count a) (page_count b) (page_count c) x y z one.grows two.grows;
   others = λ j e. two.others j e ∙ one.others j e;
+  some = λ e. two.some refl;
+  none = λ e. absurd cc;
 }
 
 pub done_then : (a b c : Heap) (x y z : List (ℕ × List Slot)) (held : ℕ → List ℕ) (in_use in_file id : ℕ) (first bytes : Option (List ℕ)) → Done a b x y held in_use in_file id first → Done b c y z held in_use in_file id bytes → Done a c x z held in_use in_file id bytes
@@ -389,58 +392,24 @@ then_ok (Ok x) P Q f p = f p
 then_ok (Err e) P Q f p = p
 
 -- nothing done
-pub nothing_goes : (heap : Heap) (was : List (ℕ × List Slot)) (id : ℕ) → HasRoom was → Goes heap heap was was id
+pub nothing_goes : (heap : Heap) (was : List (ℕ × List Slot)) (id : ℕ) → HasRoom was → Goes heap heap was was id false
 nothing_goes heap was id room = record {
   room = room;
   grows = Grows-none (page_count heap) was;
   others = λ j e. refl;
+  some = λ e. absurd cc;
+  none = λ e. refl;
 }
 
-pub nothing_done : (heap : Heap) (was : List (ℕ × List Slot)) (held : ℕ → List ℕ) (in_use in_file id : ℕ) (bytes : Option (List ℕ)) → Stands heap was held in_use in_file → bytes_now heap was held id ≡ bytes → Done heap heap was was held in_use in_file id bytes
-nothing_done heap was held in_use in_file id bytes stands same = record {
+pub nothing_done : (heap : Heap) (was : List (ℕ × List Slot)) (held : ℕ → List ℕ) (in_use in_file id : ℕ) → Stands heap was held in_use in_file → place_of heap id ≡ None → Done heap heap was was held in_use in_file id None
+nothing_done heap was held in_use in_file id stands absent = record {
   stands = stands;
   bytes_are = λ j. by_test j (eqb j id) refl;
 }
   where
-    by_test : (j : ℕ) (b : Bool) → eqb j id ≡ b → bytes_now heap was held j ≡ cond b bytes (bytes_now heap was held j)
-    by_test j true e = subst (λ k. bytes_now heap was held k ≡ bytes) (sym (eqb-true j id e)) same
+    by_test : (j : ℕ) (b : Bool) → eqb j id ≡ b → bytes_now heap was held j ≡ cond b None (bytes_now heap was held j)
+    by_test j true e = let same = eqb-true j id e in let gone : place_of heap j ≡ None = rw same absent in rw gone refl
     by_test j false e = refl
-
--- ---- what stands under an id before a step
-
-pub bytes_here : (heap : Heap) (was : List (ℕ × List Slot)) (held : ℕ → List ℕ) (id page : ℕ) → place_of heap id ≡ Some page → bytes_now heap was held id ≡ bytes_at (slots_now was held page) id
-bytes_here heap was held id page here = ap (λ o. option_and_then (λ p. bytes_at (slots_now was held p) id) o) here
-
-pub bytes_nowhere : (heap : Heap) (was : List (ℕ × List Slot)) (held : ℕ → List ℕ) (id : ℕ) → place_of heap id ≡ None → bytes_now heap was held id ≡ None
-bytes_nowhere heap was held id absent = ap (λ o. option_and_then (λ p. bytes_at (slots_now was held p) id) o) absent
-
--- an id of a page, and other bytes for it
-pub altered_here : (heap : Heap) (was now : List (ℕ × List Slot)) (held : ℕ → List ℕ) (id page : ℕ) (bytes : Option (List ℕ)) → place_of heap id ≡ Some page → bytes_at (slots_now was held page) id ≢ bytes → AreBytes (bytes_at (slots_now was held page) id) → 0 < length now → Alters heap was now held id bytes
-altered_here heap was now held id page bytes here other read some = record {
-  pages = inr (λ e. other (sym (bytes_here heap was held id page here) ∙ e), some);
-  read = subst AreBytes (sym (bytes_here heap was held id page here)) read;
-}
-
--- or the same
-pub kept_here : (heap : Heap) (was now : List (ℕ × List Slot)) (held : ℕ → List ℕ) (id page : ℕ) (bytes : Option (List ℕ)) → place_of heap id ≡ Some page → bytes_at (slots_now was held page) id ≡ bytes → AreBytes (bytes_at (slots_now was held page) id) → now ≡ was → Alters heap was now held id bytes
-kept_here heap was now held id page bytes here same read kept = record {
-  pages = inl (bytes_here heap was held id page here ∙ same, kept);
-  read = subst AreBytes (sym (bytes_here heap was held id page here)) read;
-}
-
--- bytes for an id that has none
-pub altered_new : (heap : Heap) (was now : List (ℕ × List Slot)) (held : ℕ → List ℕ) (id : ℕ) (bytes : Option (List ℕ)) → place_of heap id ≡ None → is_some bytes ≡ true → 0 < length now → Alters heap was now held id bytes
-altered_new heap was now held id bytes absent is some = record {
-  pages = inr (λ e. (let none : is_some bytes ≡ false = ap is_some (sym e ∙ bytes_nowhere heap was held id absent) in cc), some);
-  read = subst AreBytes (sym (bytes_nowhere heap was held id absent)) tt;
-}
-
--- or none
-pub kept_nowhere : (heap : Heap) (was : List (ℕ × List Slot)) (held : ℕ → List ℕ) (id : ℕ) (bytes : Option (List ℕ)) → place_of heap id ≡ None → bytes ≡ None → Alters heap was was held id bytes
-kept_nowhere heap was held id bytes absent none = record {
-  pages = inl (bytes_nowhere heap was held id absent ∙ sym none, refl);
-  read = subst AreBytes (sym (bytes_nowhere heap was held id absent)) tt;
-}
 
 -- what is true of pages is true of the same pages
 pub at_pages : (P : (ℕ → List ℕ) → ℕ → ℕ → Type 0) (held there : ℕ → List ℕ) (in_use use_there in_file file_there : ℕ) → there ≡ held → use_there ≡ in_use → file_there ≡ in_file → P there use_there file_there → P held in_use in_file

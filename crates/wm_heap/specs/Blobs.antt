@@ -1,6 +1,8 @@
 -- What is to become of the bytes under some ids.
-use Rattle.std.specs.Prelude.{◌≡◌, ℕ, ◌<◌, ◌≤◌, Bool, true, false, ◌||◌, ◌==◌, if◌then◌else◌, List, [], ◌∷◌, ◌++◌, map, length, slice_index, Option, Some, None, is_some, IfSome}
+use Rattle.std.specs.Prelude.{◌≡◌, ℕ, ◌<◌, ◌≤◌, ◌⊎◌, Bool, true, false, not, ◌||◌, ◌==◌, if◌then◌else◌, List, [], ◌∷◌, ◌++◌, map, length, slice_index, Option, Some, None, is_some, IfSome}
 use Rattle.std.specs.List.{list_any}
+use Rattle.std.specs.Option.{option_eq}
+use Rattle.std.specs.Str.{bytes_eq}
 use Rattle.wm_spec.specs.Records.{ids_differ}
 use Rattle.wm_heap.specs.declared.blob.Blob.{Blob}
 use Rattle.wm_heap.specs.declared.slot.Slot.{Slot}
@@ -38,17 +40,22 @@ slots_put (b ∷ blobs) = slots_of_bytes b.id b.bytes ++ slots_put blobs
 abbrev pub change_something : (ℕ → Bool) → List Blob → Bool
 change_something there blobs = list_any (λ b. is_some b.bytes || there b.id) blobs
 
--- each of them that is of none of these ids says what stands there already
-abbrev pub AlterOnly : List ℕ → (ℕ → Option (List ℕ)) → List Blob → Type 0
-AlterOnly ids standing [] = Unit {0}
-AlterOnly ids standing (b ∷ blobs) = (list_any (λ k. k == b.id) ids ≡ false → standing b.id ≡ b.bytes) × AlterOnly ids standing blobs
+-- a blob says something else than stands under its id
+abbrev pub alters : (ℕ → Option (List ℕ)) → Blob → Bool
+alters standing b = not (option_eq bytes_eq (standing b.id) b.bytes)
+
+-- some of the blobs, in order
+abbrev pub AreSomeOf : List Blob → List Blob → Type 0
+AreSomeOf [] blobs = Unit {0}
+AreSomeOf (s ∷ some) [] = ⊥
+AreSomeOf (s ∷ some) (b ∷ blobs) = ((s ≡ b) × AreSomeOf some blobs) ⊎ AreSomeOf (s ∷ some) blobs
 
 -- each item is a byte, where there are some
 abbrev pub AreBytes : Option (List ℕ) → Type 0
 AreBytes None = Unit {0}
 AreBytes (Some bytes) = (i : ℕ) → slice_index bytes i < 256
 
--- what stands under the id of each of them are bytes
+-- what stands under the id of each of them that puts bytes are bytes
 abbrev pub OverBytes : (ℕ → Option (List ℕ)) → List Blob → Type 0
 OverBytes standing [] = Unit {0}
-OverBytes standing (b ∷ blobs) = AreBytes (standing b.id) × OverBytes standing blobs
+OverBytes standing (b ∷ blobs) = (is_some b.bytes ≡ true → AreBytes (standing b.id)) × OverBytes standing blobs

@@ -1,10 +1,9 @@
 -- A change of the heap on its way: the pages put so far lie over those that the store holds.
-use Rattle.std.specs.Prelude.{◌≡◌, ℕ, suc, ◌<◌, ◌≤◌, ◌≢◌, ◌⊎◌, max, Bool, true, false, ◌==◌, nat_lt, if◌then◌else◌, List, [], ◌∷◌, ◌++◌, map, length, Option, Some, None, is_some, unwrap_or}
+use Rattle.std.specs.Prelude.{◌≡◌, ℕ, suc, ◌<◌, ◌≤◌, ◌⊎◌, max, Bool, true, false, ◌==◌, nat_lt, if◌then◌else◌, List, [], ◌∷◌, ◌++◌, map, length, Option, Some, None, is_some, unwrap_or}
 use Rattle.std.specs.Option.{option_and_then}
 use Rattle.wm_heap.specs.declared.heap.Heap.{Heap}
 use Rattle.wm_heap.specs.declared.slot.Slot.{Slot}
 use Rattle.wm_heap.specs.Slots.{slots_of, page_of, used}
-use Rattle.wm_heap.specs.Blobs.{AreBytes}
 use Rattle.wm_heap.specs.Content.{slots_in, bytes_at}
 use Rattle.wm_heap.specs.Places.{at, ids_on, ids_of, place_of, page_count, IsPlaced}
 use Rattle.wm_heap.specs.Plan.{root_of}
@@ -56,23 +55,20 @@ pub record Grows (old new : ℕ) (was now : List (ℕ × List Slot)) : Type 0 wh
   pub within : (p : ℕ) → is_some (at now p) ≡ true → (is_some (at was p) ≡ true) ⊎ ((2 ≤ p) × (p < new))
   pub grown : (p : ℕ) → old ≤ p → p < new → is_some (at now p) ≡ true
 
--- what a step does to the pages and the places, whatever they hold: new bytes have room, and only one id moves
-pub record Goes (old new : Heap) (was now : List (ℕ × List Slot)) (id : ℕ) : Type 0 where
+-- what a step does to the pages and the places, whatever they hold: new bytes have room, only one id moves, and pages
+-- were put where something is touched
+pub record Goes (old new : Heap) (was now : List (ℕ × List Slot)) (id : ℕ) (touched : Bool) : Type 0 where
   pub room : HasRoom now
   pub grows : Grows (page_count old) (page_count new) was now
   pub others : (j : ℕ) → (j == id) ≡ false → place_of new j ≡ place_of old j
+  pub some : touched ≡ true → 0 < length now
+  pub none : touched ≡ false → now ≡ was
 
 -- after a step that puts these bytes under an id the heap is that of the pages, and they hold what they held but for
 -- that
 pub record Done (old new : Heap) (was now : List (ℕ × List Slot)) (held : ℕ → List ℕ) (in_use in_file id : ℕ) (bytes : Option (List ℕ)) : Type 0 where
   pub stands : Stands new now held in_use in_file
   pub bytes_are : (j : ℕ) → bytes_now new now held j ≡ (if j == id then bytes else bytes_now old was held j)
-
--- no page is put where these bytes stand under an id already, and some are put by now where others stand there; what
--- stands there are bytes
-pub record Alters (old : Heap) (was now : List (ℕ × List Slot)) (held : ℕ → List ℕ) (id : ℕ) (bytes : Option (List ℕ)) : Type 0 where
-  pub pages : ((bytes_now old was held id ≡ bytes) × (now ≡ was)) ⊎ ((bytes_now old was held id ≢ bytes) × (0 < length now))
-  pub read : AreBytes (bytes_now old was held id)
 
 -- each page with its slots as bytes
 abbrev pub written : List (ℕ × List Slot) → List (ℕ × List ℕ)

@@ -1,12 +1,11 @@
 -- The pages that a change of the heap writes.
-use Rattle.std.specs.Prelude.{◌≡◌, ℕ, ◌+◌, ◌*◌, ◌<◌, ◌≤◌, ◌↔◌, true, nat_lt, List, [], length, replicate, Option, None}
-use Rattle.wm_page.specs.declared.write.PageWrite.{PageWrite}
+use Rattle.std.specs.Prelude.{◌≡◌, ℕ, ◌<◌, ◌≤◌, true, nat_lt, List, [], replicate, None}
 use Rattle.wm_page.specs.Entries.{is_named, found}
 use Rattle.wm_page.specs.Fields.{number_at, eight_bytes, with_bytes}
 use Rattle.wm_heap.specs.declared.heap.Heap.{Heap}
 use Rattle.wm_heap.specs.declared.blob.Blob.{Blob}
 use Rattle.wm_heap.specs.Content.{content, bytes_at, fault_of}
-use Rattle.wm_heap.specs.Blobs.{blob_at, after, AlterOnly, OverBytes}
+use Rattle.wm_heap.specs.Blobs.{blob_at, after}
 use Rattle.wm_heap.specs.Places.{page_count, IsHeapOf}
 
 -- page 1 of a store with this page count
@@ -30,10 +29,3 @@ pub record IsChanged (heap : Heap) (blobs : List Blob) (pages : List (ℕ × Lis
   pub is_heap : IsHeapOf heap (laid pages held) (page_count heap)
   pub sound : (whole : ℕ) → page_count heap ≤ whole → fault_of (laid pages held) (page_count heap) whole ≡ None
   pub bytes : (id : ℕ) → bytes_at (content (laid pages held) (page_count heap)) id ≡ after (blob_at blobs id) (bytes_at (content held before) id)
-
--- pages that are put for blobs over what stands under their ids: none exactly where each blob says what stands there
--- already, and few for those that say something else; what stands there was read, so it is known to be bytes
-pub record PutsFew (blobs : List Blob) (pages : List PageWrite) (standing : ℕ → Option (List ℕ)) : Type 0 where
-  pub none : (pages ≡ []) ↔ AlterOnly [] standing blobs
-  pub few : (ids : List ℕ) → AlterOnly ids standing blobs → length pages ≤ 2 * length ids + 2
-  pub read : OverBytes standing blobs

@@ -44,6 +44,12 @@ impl Blobs {
         self.list.as_slice()
     }
 
+    pub fn into_vec(self) -> Vec<Blob>
+        ensures { result.items ≡ self }
+    {
+        self.list
+    }
+
     pub fn len(&self) -> usize
         ensures { result ≡ length self.now }
     {

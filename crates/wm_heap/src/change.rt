@@ -1,13 +1,13 @@
 //! One change of a heap: what is under an id is put where there is room, or taken out.
-ghost use Rattle.std.specs.Prelude.{◌≡◌, ℕ, ◌+◌, ◌<◌, ◌≤◌, ◌==◌, if◌then◌else◌, ◌++◌, ◌∷◌, [], length, Some, None, IfOk, OnOk, IsErrOf, IfSome};
+ghost use Rattle.std.specs.Prelude.{◌≡◌, ℕ, ◌+◌, ◌<◌, ◌≤◌, true, ◌||◌, ◌==◌, if◌then◌else◌, ◌++◌, ◌∷◌, [], length, Some, None, is_some, IfOk, OnOk, IsErrOf, IfSome};
 ghost use Rattle.wm_base.specs.declared.fault.StoreFault.TheVariants as faults;
 ghost use Rattle.wm_page.specs.Cause.{StoreCause};
-ghost use Rattle.wm_heap.specs.Draft.{HasRoom, Stands, Puts, Goes, Done, Alters, slots_with, place_with};
+ghost use Rattle.wm_heap.specs.Draft.{HasRoom, Stands, Puts, Goes, Done, slots_with, place_with};
 ghost use Rattle.wm_heap.specs.Places.{place_of, page_count};
 ghost use Rattle.wm_heap.specs.Slots.{used};
 
 use crate::blob::Blob;
-use crate::draft::{Changed, take_altered};
+use crate::draft::{Changed, take_slots};
 use crate::heap::Heap;
 use crate::ids::ids_of_slots;
 use crate::places::{clear_page_of, page_of as place_in, set_page_of};
@@ -80,9 +80,8 @@ impl Heap {
         requires small { length bytes.now ≤ 4084 }
         requires absent { place_of self.old id ≡ None }
         requires stands { G.tells → Stands self.old changed.old.entries (G.held pages.old) (G.in_use pages.old) (G.in_file pages.old) }
-        ensures goes { OnOk result (Goes self.old self.new changed.old.entries changed.new.entries id) }
+        ensures goes { OnOk result (Goes self.old self.new changed.old.entries changed.new.entries id true) }
         ensures done { G.tells → OnOk result (Done self.old self.new changed.old.entries changed.new.entries (G.held pages.old) (G.in_use pages.old) (G.in_file pages.old) id (Some bytes.now)) }
-        ensures some { OnOk result (0 < length changed.new.entries) }
         ensures few { OnOk result (length changed.new.entries ≤ length changed.old.entries + 1) }
         ensures told { G.tells → G.held pages.new ≡ G.held pages.old }
         ensures past { G.tells → G.past pages.new ≡ G.past pages.old }
@@ -150,8 +149,7 @@ impl Heap {
         Ok(false)
     }
 
-    /// Puts or drops what is under an id of a page: on the same page where there is room. What stands there as it is to
-    /// stand is left where it is.
+    /// Puts or drops what is under an id of a page: on the same page where there is room.
     fn change_on<G: Pages>(
         &mut self,
         alloc: Global,
@@ -164,9 +162,8 @@ impl Heap {
         requires small { IfSome blob.now.bytes (λ bytes. length bytes ≤ 4084) }
         requires here { place_of self.old blob.now.id ≡ Some page }
         requires stands { G.tells → Stands self.old changed.old.entries (G.held pages.old) (G.in_use pages.old) (G.in_file pages.old) }
-        ensures goes { OnOk result (Goes self.old self.new changed.old.entries changed.new.entries blob.now.id) }
+        ensures goes { OnOk result (Goes self.old self.new changed.old.entries changed.new.entries blob.now.id true) }
         ensures done { G.tells → OnOk result (Done self.old self.new changed.old.entries changed.new.entries (G.held pages.old) (G.in_use pages.old) (G.in_file pages.old) blob.now.id blob.now.bytes) }
-        ensures alters { G.tells → OnOk result (Alters self.old changed.old.entries changed.new.entries (G.held pages.old) blob.now.id blob.now.bytes) }
         ensures few { OnOk result (length changed.new.entries ≤ length changed.old.entries + 2) }
         ensures told { G.tells → G.held pages.new ≡ G.held pages.old }
         ensures past { G.tells → G.past pages.new ≡ G.past pages.old }
@@ -179,9 +176,7 @@ impl Heap {
         if page < 2 || page >= self.page_count() {
             return Err(StoreFault::Changed);
         }
-        let Some(found) = take_altered(alloc, changed, pages, page, blob)? else {
-            return Ok(());
-        };
+        let found = take_slots(alloc, changed, pages, page)?;
         let slots = found.without(blob.id);
         let all = self.change_here(alloc, changed, page, slots, blob)?;
         if all {
@@ -205,12 +200,9 @@ impl Heap {
         requires room { HasRoom changed.old.entries }
         requires small { IfSome blob.now.bytes (λ bytes. length bytes ≤ 4084) }
         requires stands { G.tells → Stands self.old changed.old.entries (G.held pages.old) (G.in_use pages.old) (G.in_file pages.old) }
-        ensures goes { OnOk result (Goes self.old self.new changed.old.entries changed.new.entries blob.now.id) }
+        ensures goes { OnOk result (Goes self.old self.new changed.old.entries changed.new.entries blob.now.id (is_some blob.now.bytes || is_some (place_of self.old blob.now.id))) }
         ensures done { G.tells → OnOk result (Done self.old self.new changed.old.entries changed.new.entries (G.held pages.old) (G.in_use pages.old) (G.in_file pages.old) blob.now.id blob.now.bytes) }
-        ensures alters { G.tells → OnOk result (Alters self.old changed.old.entries changed.new.entries (G.held pages.old) blob.now.id blob.now.bytes) }
         ensures few { OnOk result (length changed.new.entries ≤ length changed.old.entries + 2) }
-        ensures none { place_of self.old blob.now.id ≡ None → blob.now.bytes ≡ None → changed.new.entries ≡ changed.old.entries }
-        ensures places { place_of self.old blob.now.id ≡ None → blob.now.bytes ≡ None → self.new.places.entries ≡ self.old.places.entries }
         ensures told { G.tells → G.held pages.new ≡ G.held pages.old }
         ensures past { G.tells → G.past pages.new ≡ G.past pages.old }
         ensures source { G.source pages.new ≡ G.source pages.old }

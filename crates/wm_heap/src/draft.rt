@@ -1,20 +1,17 @@
 //! The pages of a change, before they are written.
-ghost use Rattle.std.specs.Prelude.{◌≡◌, ℕ, ◌+◌, ◌<◌, ◌≤◌, ◌++◌, ◌==◌, ◌↔◌, List, true, false, nat_lt, length, Some, None, is_some, IfOk, IfSome, OnOk, IsErrOf};
+ghost use Rattle.std.specs.Prelude.{◌≡◌, ℕ, ◌+◌, ◌<◌, ◌≤◌, ◌++◌, ◌==◌, List, true, false, nat_lt, length, Some, None, is_some, IfOk, IfSome, OnOk, IsErrOf};
 ghost use Rattle.std.specs.BTreeMap.{IsOrdered};
 ghost use Rattle.std.specs.Ordering.{nat_cmp};
 ghost use Rattle.wm_base.specs.declared.fault.StoreFault.TheVariants as faults;
 ghost use Rattle.wm_page.specs.Batch.{entries};
 ghost use Rattle.wm_page.specs.Cause.{StoreCause};
 ghost use Rattle.wm_page.specs.Fields.{number_at};
-ghost use Rattle.wm_heap.specs.Blobs.{AreBytes};
-ghost use Rattle.wm_heap.specs.Content.{bytes_at};
 ghost use Rattle.wm_heap.specs.Draft.{slots_now, written, rooted, paged, HasRoom, IsThere};
 ghost use Rattle.wm_heap.specs.Places.{at};
 ghost use Rattle.wm_heap.specs.Plan.{root_of};
 ghost use Rattle.wm_heap.specs.Slots.{slots_of, page_of, used};
 ghost use Rattle.wm_heap.specs.declared.slot.Slot.{Slot};
 
-use crate::blob::Blob;
 use crate::slot::Slots;
 use crate::stored::stored_slots;
 use crate::writing::write_slots;
@@ -26,23 +23,18 @@ use wm_page::{PAGE_SIZE, PageBatch, PageWrite, PageWrites, Pages, write_number};
 /// The slots of the pages that a change puts.
 pub type Changed = BTreeMap<u64, Slots>;
 
-/// The slots of a page by now, where a blob alters them. Those that were put there are taken out. Else nothing is taken
-/// out.
-pub fn take_altered<G: Pages>(
+/// The slots of a page by now. Those that were put there are taken out.
+pub fn take_slots<G: Pages>(
     alloc: Global,
     changed: &mut Changed,
     pages: &mut G,
     page: u64,
-    blob: &Blob,
-) -> Result<Option<Slots>, StoreFault>
+) -> Result<Slots, StoreFault>
     requires { HasRoom changed.old.entries }
-    ensures value { G.tells → IfOk result (λ found. IfSome found (λ slots. slots ≡ slots_now changed.old.entries (G.held pages.old) page)) }
-    ensures same { G.tells → IfOk result (λ found. (found ≡ None) ↔ (bytes_at (slots_now changed.old.entries (G.held pages.old) page) blob.now.id ≡ blob.now.bytes)) }
-    ensures bytes { G.tells → OnOk result (AreBytes (bytes_at (slots_now changed.old.entries (G.held pages.old) page) blob.now.id)) }
-    ensures room { IfOk result (λ found. IfSome found (λ slots. used slots ≤ 4096)) }
+    ensures value { G.tells → IfOk result (λ slots. slots ≡ slots_now changed.old.entries (G.held pages.old) page) }
+    ensures room { IfOk result (λ slots. used slots ≤ 4096) }
     ensures others { (p : ℕ) → (p == page) ≡ false → at changed.new.entries p ≡ at changed.old.entries p }
     ensures fewer { length changed.new.entries ≤ length changed.old.entries }
-    ensures kept { IfOk result (λ found. found ≡ None → changed.new.entries ≡ changed.old.entries) }
     ensures told { G.tells → G.held pages.new ≡ G.held pages.old }
     ensures past { G.tells → G.past pages.new ≡ G.past pages.old }
     ensures source { G.source pages.new ≡ G.source pages.old }
@@ -51,17 +43,10 @@ pub fn take_altered<G: Pages>(
     ensures cause { StoreCause (G.faults pages.old) (G.faults pages.new) result }
     ensures sound { G.tells → IsThere changed.old.entries (G.held pages.old) (G.in_use pages.old) (G.in_file pages.old) page → IsErrOf result faults.Changed → ⊥ }
 {
-    let Some(put) = changed.get(&page) else {
-        let slots = stored_slots(alloc, pages, page)?;
-        if slots.hold(blob) {
-            return Ok(None);
-        }
-        return Ok(Some(slots));
-    };
-    if put.hold(blob) {
-        return Ok(None);
+    match changed.remove(&page) {
+        Some(slots) => Ok(slots),
+        None => stored_slots(alloc, pages, page),
     }
-    Ok(changed.remove(&page))
 }
 
 /// The slots of a page by now, where they leave room for a slot of so many bytes. Those that were put there are taken

@@ -1,12 +1,12 @@
 //! The heap: where each record stands.
-ghost use Rattle.std.specs.Prelude.{◌≡◌, ℕ, ◌+◌, ◌*◌, ◌<◌, ◌≤◌, false, [], ◌++◌, length, is_some, IfOk, IsErrOf, OnOk};
+ghost use Rattle.std.specs.Prelude.{◌≡◌, ℕ, ◌+◌, ◌*◌, ◌<◌, ◌≤◌, true, not, ◌==◌, ◌++◌, filter, length, is_some, IfOk, IsErrOf, OnOk};
 ghost use Rattle.wm_base.specs.declared.fault.StoreFault.TheVariants as faults;
 ghost use Rattle.wm_page.specs.Batch.{entries};
 ghost use Rattle.wm_page.specs.Cause.{StoreCause};
-ghost use Rattle.wm_heap.specs.Blobs.{AreBlobs, AreSmall, change_something};
+ghost use Rattle.wm_heap.specs.Blobs.{AreBlobs, AreBytes, AreSmall, AreSomeOf, OverBytes, alters, change_something};
 ghost use Rattle.wm_heap.specs.Content.{content, bytes_at};
 ghost use Rattle.wm_heap.specs.Places.{place_of, page_count, spots_of, spots_on, IsHeapOf};
-ghost use Rattle.wm_heap.specs.Plan.{IsPlan, IsChanged, PutsFew};
+ghost use Rattle.wm_heap.specs.Plan.{IsPlan, IsChanged};
 
 use crate::blob::{Blob, Blobs};
 use crate::draft::{Changed, page_batch};
@@ -80,10 +80,69 @@ impl Heap {
         Ok(spots)
     }
 
-    /// The pages that put the changes in place, and none exactly where each change says what stands there already.
-    /// There are none, whatever is read, where the changes only drop ids that have no place. The heap is then that of
-    /// the store with these pages. They are at most two for each change that says something else, and two more. What
-    /// stood under the ids was read, so it is known to be bytes. After an error the heap is to be given up.
+    /// Whether a change says something else than stands under its id. Where nothing stands, and where a change drops
+    /// what stands, no page tells more than the places do.
+    fn alters<G: Pages>(
+        &self,
+        alloc: Global,
+        pages: &mut G,
+        blob: &Blob,
+    ) -> Result<bool, StoreFault>
+        requires heap { G.tells → IsHeapOf self.now (G.held pages.old) (G.in_use pages.old) }
+        requires whole { G.tells → G.in_use pages.old ≤ G.in_file pages.old }
+        ensures alters { G.tells → IfOk result (λ yes. yes ≡ alters (bytes_at (content (G.held pages.old) (G.in_use pages.old))) blob.now) }
+        ensures read { G.tells → OnOk result (is_some blob.now.bytes ≡ true → AreBytes (bytes_at (content (G.held pages.old) (G.in_use pages.old)) blob.now.id)) }
+        ensures told { G.tells → G.held pages.new ≡ G.held pages.old }
+        ensures past { G.tells → G.past pages.new ≡ G.past pages.old }
+        ensures source { G.source pages.new ≡ G.source pages.old }
+        ensures in_use { G.in_use pages.new ≡ G.in_use pages.old }
+        ensures in_file { G.in_file pages.new ≡ G.in_file pages.old }
+        ensures cause { StoreCause (G.faults pages.old) (G.faults pages.new) result }
+        ensures sound { G.tells → IsErrOf result faults.Changed → ⊥ }
+    {
+        let Some(page) = place_in(&self.places, blob.id) else {
+            return Ok(blob.bytes.is_some());
+        };
+        if blob.bytes.is_none() {
+            return Ok(true);
+        }
+        let slots = stored_slots(alloc, pages, page)?;
+        Ok(!slots.hold(blob))
+    }
+
+    /// Those changes of a batch, in order, that say something else than stands under their ids. What stands under an id
+    /// that is put again is read from its page, so it is known to be bytes.
+    pub fn altering<G: Pages>(
+        &self,
+        alloc: Global,
+        pages: &mut G,
+        batch: Blobs,
+    ) -> Result<Blobs, StoreFault>
+        requires heap { G.tells → IsHeapOf self.now (G.held pages.old) (G.in_use pages.old) }
+        requires whole { G.tells → G.in_use pages.old ≤ G.in_file pages.old }
+        ensures some { IfOk result (λ left. AreSomeOf left batch) }
+        ensures altering { G.tells → IfOk result (λ left. left ≡ filter (alters (bytes_at (content (G.held pages.old) (G.in_use pages.old)))) batch) }
+        ensures read { G.tells → OnOk result (OverBytes (bytes_at (content (G.held pages.old) (G.in_use pages.old))) batch) }
+        ensures told { G.tells → G.held pages.new ≡ G.held pages.old }
+        ensures past { G.tells → G.past pages.new ≡ G.past pages.old }
+        ensures source { G.source pages.new ≡ G.source pages.old }
+        ensures in_use { G.in_use pages.new ≡ G.in_use pages.old }
+        ensures in_file { G.in_file pages.new ≡ G.in_file pages.old }
+        ensures cause { StoreCause (G.faults pages.old) (G.faults pages.new) result }
+        ensures sound { G.tells → IsErrOf result faults.Changed → ⊥ }
+    {
+        let mut left = Blobs::new(alloc);
+        for blob in batch.into_vec() {
+            if self.alters(alloc, pages, &blob)? {
+                left.push(blob)?;
+            }
+        }
+        Ok(left)
+    }
+
+    /// The pages that put the changes in place, and none exactly where nothing changes. The heap is then that of the
+    /// store with these pages. They are at most two for each change, and two more. After an error the heap is to be
+    /// given up.
     pub fn plan<G: Pages>(
         &mut self,
         alloc: Global,
@@ -95,9 +154,8 @@ impl Heap {
         requires heap { G.tells → IsHeapOf self.old (G.held pages.old) (G.in_use pages.old) }
         requires whole { G.tells → G.in_use pages.old ≤ G.in_file pages.old }
         ensures plan { IfOk result (λ b. IsPlan (page_count self.old) (page_count self.new) (entries b.pages)) }
+        ensures nothing { IfOk result (λ b. (length b.pages == 0) ≡ not (change_something (λ id. is_some (place_of self.old id)) batch.now)) }
         ensures few { IfOk result (λ b. length b.pages ≤ 2 * length batch.now + 2) }
-        ensures idle { IfOk result (λ b. change_something (λ id. is_some (place_of self.old id)) batch.now ≡ false → b.pages ≡ []) }
-        ensures altered { G.tells → IfOk result (λ b. PutsFew batch.now b.pages (bytes_at (content (G.held pages.old) (G.in_use pages.old)))) }
         ensures changed { G.tells → IfOk result (λ b. IsChanged self.new batch.now (entries b.pages) (G.held pages.old) (G.in_use pages.old)) }
         ensures told { G.tells → G.held pages.new ≡ G.held pages.old }
         ensures past { G.tells → G.past pages.new ≡ G.past pages.old }

@@ -1,3 +1,4 @@
+pub mod Altering
 pub mod Committing
 pub mod Fitting
 pub mod Distinct

@@ -1,4 +1,5 @@
 pub mod Answers
+pub mod Few
 pub mod Fresh
 pub mod Opened
 pub mod Past

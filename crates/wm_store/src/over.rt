@@ -9,8 +9,9 @@ ghost use Rattle.wm_journal.specs.Disk.{page};
 ghost use Rattle.wm_heap.specs.Blobs.{AreBlobs, AreSmall, change_something};
 ghost use Rattle.wm_heap.specs.Content.{content, bytes_at};
 ghost use Rattle.wm_heap.specs.Places.{place_of, page_count, IsHeapOf};
-ghost use Rattle.wm_heap.specs.Plan.{IsPlan, IsChanged, PutsFew};
+ghost use Rattle.wm_heap.specs.Plan.{IsPlan, IsChanged};
 ghost use Rattle.wm_store.specs.Answers.{FindsIn};
+ghost use Rattle.wm_store.specs.Few.{PutsFew};
 ghost use Rattle.wm_store.specs.Opened.{pages_opened};
 
 use crate::records::load_pages;
@@ -59,17 +60,17 @@ pub fn plan_over<P: Station>(
     station: &mut P,
     heap: &mut Heap,
     count: u64,
-    blobs: &Blobs,
+    blobs: Blobs,
 ) -> Result<PageBatch, StoreFault>
-    requires once { AreBlobs blobs.now }
-    requires small { AreSmall blobs.now }
+    requires once { AreBlobs blobs }
+    requires small { AreSmall blobs }
     requires heap { P.tells → IsHeapOf heap.old (page (now (P.history station.old))) count }
     requires size { P.tells → count * 4096 ≤ length (now (P.history station.old)) }
     ensures plan { IfOk result (λ b. IsPlan (page_count heap.old) (page_count heap.new) (entries b.pages)) }
-    ensures few { IfOk result (λ b. length b.pages ≤ 2 * length blobs.now + 2) }
-    ensures idle { IfOk result (λ b. change_something (λ id. is_some (place_of heap.old id)) blobs.now ≡ false → b.pages ≡ []) }
-    ensures altered { P.tells → IfOk result (λ b. PutsFew blobs.now b.pages (bytes_at (content (page (now (P.history station.old))) count))) }
-    ensures changed { P.tells → IfOk result (λ b. IsChanged heap.new blobs.now (entries b.pages) (page (now (P.history station.old))) count) }
+    ensures few { IfOk result (λ b. length b.pages ≤ 2 * length blobs + 2) }
+    ensures idle { IfOk result (λ b. change_something (λ id. is_some (place_of heap.old id)) blobs ≡ false → b.pages ≡ []) }
+    ensures altered { P.tells → IfOk result (λ b. PutsFew blobs b.pages (bytes_at (content (page (now (P.history station.old))) count))) }
+    ensures changed { P.tells → IfOk result (λ b. IsChanged heap.new blobs (entries b.pages) (page (now (P.history station.old))) count) }
     ensures told { P.tells → P.history station.new ≡ P.history station.old }
     ensures cause { StoreCause (P.disk_faults station.old) (P.disk_faults station.new) result }
     ensures sound { P.tells → IsErrOf result storing.Changed → ⊥ }
@@ -85,7 +86,8 @@ pub fn plan_over<P: Station>(
         count,
         whole,
     };
-    let batch = heap.plan(alloc, &mut pages, blobs)?;
+    let left = heap.altering(alloc, &mut pages, blobs)?;
+    let batch = heap.plan(alloc, &mut pages, &left)?;
     Ok(batch)
 }
 

@@ -140,7 +140,7 @@ impl Store {
             return Err(StoreFault::Changed);
         }
         let blobs = spell_changes(alloc, batch.changes.as_slice())?;
-        let pages = plan_over(alloc, station, &mut self.heap, count, &blobs)?;
+        let pages = plan_over(alloc, station, &mut self.heap, count, blobs)?;
         if pages.pages.is_empty() {
             return Ok(());
         }

@@ -4,7 +4,7 @@ use Rattle.wm_heap.specs.Draft.{slots_now}
 use Rattle.wm_heap.specs.Places.{at}
 use Rattle.wm_heap.specs.Slots.{used}
 use Rattle.wm_heap.proofs.Sizes.{used-push}
-use Rattle.wm_heap.proofs.Standing.{slot_with, put_goes, put_some, puts_over, added_there, added_new}
+use Rattle.wm_heap.proofs.Standing.{slot_with, put_goes, puts_over, added_there, added_new}
 use Rattle.wm_heap.proofs.heap.Heap.add.Goals as goal
 
 pub returns-in_default-clause-goes : goal.returns-in_default-clause-goes
@@ -57,9 +57,3 @@ returns-clause-done g c = λ t.
     added_there c.args.self.now c.put_behind-2.new.self was c.put_behind-2.new.changed.entries (g.G.Pages.held c.args.pages.now) (g.G.Pages.in_use c.args.pages.now) (g.G.Pages.in_file c.args.pages.now)
     page c.args.id slots c.args.bytes.now (c.requires.stands t) c.requires.absent from (omega arith) value
     (puts_over page c.args.id (slots ++ slot_with c.args.id c.args.bytes.now ∷ []) (Some page) c.args.self.now (record { ids = c.args.self.now.ids; places = c.args.self.now.places; room = c.take_roomy.new.room }) c.put_behind-2.new.self was mid c.put_behind-2.new.changed.entries refl refl others c.in_ok-put_behind-2.ensures.puts)
-
-pub returns-in_default-clause-some : goal.returns-in_default-clause-some
-returns-in_default-clause-some g c = put_some _ _ _ _ _ _ _ _ c.in_ok-put_behind.ensures.puts
-
-pub returns-clause-some : goal.returns-clause-some
-returns-clause-some g c = put_some _ _ _ _ _ _ _ _ c.in_ok-put_behind-2.ensures.puts

@@ -1,9 +1,9 @@
-use Rattle.std.proofs.Common.{◌≡◌, ℕ, ◌<◌, ◌≤◌, List, length, cond, filter, not, eqb, Some, None, Option, IfSome, refl, sym, ap, subst, ◌∙◌, arith}
+use Rattle.std.proofs.Common.{ℕ, List, cond, filter, not, eqb, Some, None, Option, refl, sym, ap, subst, ◌∙◌, arith}
 use Rattle.wm_heap.specs.declared.slot.Slot.{Slot}
-use Rattle.wm_heap.specs.Draft.{slots_now, Stands, Done, Alters, slots_with, place_with}
+use Rattle.wm_heap.specs.Draft.{Stands, Done, slots_with, place_with}
 use Rattle.wm_heap.specs.Slots.{used}
 use Rattle.wm_heap.proofs.Sizes.{used-filter}
-use Rattle.wm_heap.proofs.Standing.{put_goes, put_some, puts_over, changed_here, then_ok, done_then, nothing_done, bytes_here, altered_here, kept_here, at_pages}
+use Rattle.wm_heap.proofs.Standing.{put_goes, puts_over, changed_here, then_ok, done_then, at_pages}
 use Rattle.wm_heap.proofs.heap.Heap.change_on.Goals.{then-page-lt2-via-then-page-lt2, then-page-lt2-via-else-page-lt2+then-page-page_count}
 use Rattle.wm_heap.proofs.heap.Heap.change_on.Goals as goal
 
@@ -19,15 +19,15 @@ returns-then-page-lt2-clause-sound g c = λ t e.
 
 pub change_here-requires-clause-fits : goal.change_here-requires-clause-fits
 change_here-requires-clause-fits g c =
-    let fits : used c.in-Some.found ≤ 4096 = subst (λ (o : Option (List Slot)). IfSome o (λ slots. used slots ≤ 4096)) c.in-Some.is c.in_ok-found.ensures.room in
-    let fewer = used-filter (λ (s : Slot). not (eqb s.id c.args.blob.now.id)) c.in-Some.found in
+    let fits = c.in_ok-found.ensures.room in
+    let fewer = used-filter (λ (s : Slot). not (eqb s.id c.args.blob.now.id)) c.in_ok-found.found in
     let same = ap used c.without-slots.ensures in
     omega (arith, fits, fewer, same)
 
 pub returns-then-all-clause-goes : goal.returns-then-all-clause-goes
 returns-then-all-clause-goes g c =
     let what : Option (List ℕ) = cond c.in_ok-all.all c.args.blob.now.bytes None in
-    let puts = puts_over c.args.page c.args.blob.now.id (slots_with c.without-slots.result c.args.blob.now.id what) (place_with c.args.page what) c.args.self.now c.args.self.now c.change_here.new.self c.args.changed.now.entries c.take_altered.new.changed.entries c.change_here.new.changed.entries refl refl c.in_ok-found.ensures.others c.in_ok-all.ensures.puts in
+    let puts = puts_over c.args.page c.args.blob.now.id (slots_with c.without-slots.result c.args.blob.now.id what) (place_with c.args.page what) c.args.self.now c.args.self.now c.change_here.new.self c.args.changed.now.entries c.take_slots.new.changed.entries c.change_here.new.changed.entries refl refl c.in_ok-found.ensures.others c.in_ok-all.ensures.puts in
     let count = c.page_count.ensures in
     let high = c.if-page-page_count.false in
     put_goes c.args.page c.args.blob.now.id (slots_with c.without-slots.result c.args.blob.now.id what) (place_with c.args.page what) c.args.self.now c.change_here.new.self c.args.changed.now.entries c.change_here.new.changed.entries puts c.if-page-lt2.false (omega arith) c.in_ok-all.ensures.room c.requires.room
@@ -35,67 +35,41 @@ returns-then-all-clause-goes g c =
 pub returns-then-all-clause-done : goal.returns-then-all-clause-done
 returns-then-all-clause-done g c = λ t.
     let what : Option (List ℕ) = cond c.in_ok-all.all c.args.blob.now.bytes None in
-    let puts = puts_over c.args.page c.args.blob.now.id (slots_with c.without-slots.result c.args.blob.now.id what) (place_with c.args.page what) c.args.self.now c.args.self.now c.change_here.new.self c.args.changed.now.entries c.take_altered.new.changed.entries c.change_here.new.changed.entries refl refl c.in_ok-found.ensures.others c.in_ok-all.ensures.puts in
+    let puts = puts_over c.args.page c.args.blob.now.id (slots_with c.without-slots.result c.args.blob.now.id what) (place_with c.args.page what) c.args.self.now c.args.self.now c.change_here.new.self c.args.changed.now.entries c.take_slots.new.changed.entries c.change_here.new.changed.entries refl refl c.in_ok-found.ensures.others c.in_ok-all.ensures.puts in
     let first = changed_here c.args.self.now c.change_here.new.self c.args.changed.now.entries c.change_here.new.changed.entries (g.G.Pages.held c.args.pages.now) (g.G.Pages.in_use c.args.pages.now) (g.G.Pages.in_file c.args.pages.now) c.args.page c.args.blob.now.id c.without-slots.result what
-    (c.requires.stands t) c.requires.here (c.without-slots.ensures ∙ ap (λ l. filter (λ (s : Slot). not (eqb s.id c.args.blob.now.id)) l) (subst (λ (o : Option (List Slot)). IfSome o (λ slots. slots ≡ slots_now c.args.changed.now.entries (g.G.Pages.held c.args.pages.now) c.args.page)) c.in-Some.is (c.in_ok-found.ensures.value t))) puts in
+    (c.requires.stands t) c.requires.here (c.without-slots.ensures ∙ ap (λ l. filter (λ (s : Slot). not (eqb s.id c.args.blob.now.id)) l) (c.in_ok-found.ensures.value t)) puts in
     subst (λ (o : Option (List ℕ)). Done c.args.self.now c.change_here.new.self c.args.changed.now.entries c.change_here.new.changed.entries (g.G.Pages.held c.args.pages.now) (g.G.Pages.in_use c.args.pages.now) (g.G.Pages.in_file c.args.pages.now) c.args.blob.now.id o) (ap (λ b. cond b c.args.blob.now.bytes None) c.if-all.true) first
 
-pub returns-in_default-bytes-clause-done : goal.returns-in_default-bytes-clause-done
-returns-in_default-bytes-clause-done g c = λ t.
+pub returns-in_default-clause-done : goal.returns-in_default-clause-done
+returns-in_default-clause-done g c = λ t.
     let what : Option (List ℕ) = cond c.in_ok-all.all c.args.blob.now.bytes None in
-    let puts = puts_over c.args.page c.args.blob.now.id (slots_with c.without-slots.result c.args.blob.now.id what) (place_with c.args.page what) c.args.self.now c.args.self.now c.change_here.new.self c.args.changed.now.entries c.take_altered.new.changed.entries c.change_here.new.changed.entries refl refl c.in_ok-found.ensures.others c.in_ok-all.ensures.puts in
+    let puts = puts_over c.args.page c.args.blob.now.id (slots_with c.without-slots.result c.args.blob.now.id what) (place_with c.args.page what) c.args.self.now c.args.self.now c.change_here.new.self c.args.changed.now.entries c.take_slots.new.changed.entries c.change_here.new.changed.entries refl refl c.in_ok-found.ensures.others c.in_ok-all.ensures.puts in
     let first = changed_here c.args.self.now c.change_here.new.self c.args.changed.now.entries c.change_here.new.changed.entries (g.G.Pages.held c.args.pages.now) (g.G.Pages.in_use c.args.pages.now) (g.G.Pages.in_file c.args.pages.now) c.args.page c.args.blob.now.id c.without-slots.result what
-    (c.requires.stands t) c.requires.here (c.without-slots.ensures ∙ ap (λ l. filter (λ (s : Slot). not (eqb s.id c.args.blob.now.id)) l) (subst (λ (o : Option (List Slot)). IfSome o (λ slots. slots ≡ slots_now c.args.changed.now.entries (g.G.Pages.held c.args.pages.now) c.args.page)) c.in-Some.is (c.in_ok-found.ensures.value t))) puts in
-    subst (λ (o : Option (List ℕ)). Done c.args.self.now c.change_here.new.self c.args.changed.now.entries c.change_here.new.changed.entries (g.G.Pages.held c.args.pages.now) (g.G.Pages.in_use c.args.pages.now) (g.G.Pages.in_file c.args.pages.now) c.args.blob.now.id o) (ap (λ b. cond b c.args.blob.now.bytes None) c.if-all.false ∙ sym c.in_default-bytes.is) first
+    (c.requires.stands t) c.requires.here (c.without-slots.ensures ∙ ap (λ l. filter (λ (s : Slot). not (eqb s.id c.args.blob.now.id)) l) (c.in_ok-found.ensures.value t)) puts in
+    subst (λ (o : Option (List ℕ)). Done c.args.self.now c.change_here.new.self c.args.changed.now.entries c.change_here.new.changed.entries (g.G.Pages.held c.args.pages.now) (g.G.Pages.in_use c.args.pages.now) (g.G.Pages.in_file c.args.pages.now) c.args.blob.now.id o) (ap (λ b. cond b c.args.blob.now.bytes None) c.if-all.false ∙ sym c.in_default.is) first
 
 pub add-requires-clause-stands : goal.add-requires-clause-stands
 add-requires-clause-stands g c = λ t.
     let what : Option (List ℕ) = cond c.in_ok-all.all c.args.blob.now.bytes None in
-    let puts = puts_over c.args.page c.args.blob.now.id (slots_with c.without-slots.result c.args.blob.now.id what) (place_with c.args.page what) c.args.self.now c.args.self.now c.change_here.new.self c.args.changed.now.entries c.take_altered.new.changed.entries c.change_here.new.changed.entries refl refl c.in_ok-found.ensures.others c.in_ok-all.ensures.puts in
+    let puts = puts_over c.args.page c.args.blob.now.id (slots_with c.without-slots.result c.args.blob.now.id what) (place_with c.args.page what) c.args.self.now c.args.self.now c.change_here.new.self c.args.changed.now.entries c.take_slots.new.changed.entries c.change_here.new.changed.entries refl refl c.in_ok-found.ensures.others c.in_ok-all.ensures.puts in
     let first = changed_here c.args.self.now c.change_here.new.self c.args.changed.now.entries c.change_here.new.changed.entries (g.G.Pages.held c.args.pages.now) (g.G.Pages.in_use c.args.pages.now) (g.G.Pages.in_file c.args.pages.now) c.args.page c.args.blob.now.id c.without-slots.result what
-    (c.requires.stands t) c.requires.here (c.without-slots.ensures ∙ ap (λ l. filter (λ (s : Slot). not (eqb s.id c.args.blob.now.id)) l) (subst (λ (o : Option (List Slot)). IfSome o (λ slots. slots ≡ slots_now c.args.changed.now.entries (g.G.Pages.held c.args.pages.now) c.args.page)) c.in-Some.is (c.in_ok-found.ensures.value t))) puts in
-    at_pages (λ h u f. Stands c.change_here.new.self c.change_here.new.changed.entries h u f) (g.G.Pages.held c.take_altered.new.pages) (g.G.Pages.held c.args.pages.now) (g.G.Pages.in_use c.take_altered.new.pages) (g.G.Pages.in_use c.args.pages.now) (g.G.Pages.in_file c.take_altered.new.pages) (g.G.Pages.in_file c.args.pages.now)
+    (c.requires.stands t) c.requires.here (c.without-slots.ensures ∙ ap (λ l. filter (λ (s : Slot). not (eqb s.id c.args.blob.now.id)) l) (c.in_ok-found.ensures.value t)) puts in
+    at_pages (λ h u f. Stands c.change_here.new.self c.change_here.new.changed.entries h u f) (g.G.Pages.held c.take_slots.new.pages) (g.G.Pages.held c.args.pages.now) (g.G.Pages.in_use c.take_slots.new.pages) (g.G.Pages.in_use c.args.pages.now) (g.G.Pages.in_file c.take_slots.new.pages) (g.G.Pages.in_file c.args.pages.now)
     (sym (c.in_ok-found.ensures.told t)) (sym c.in_ok-found.ensures.in_use) (sym c.in_ok-found.ensures.in_file) first.stands
 
 pub returns-clause-done : goal.returns-clause-done
 returns-clause-done g c = λ t.
     let what : Option (List ℕ) = cond c.in_ok-all.all c.args.blob.now.bytes None in
-    let puts = puts_over c.args.page c.args.blob.now.id (slots_with c.without-slots.result c.args.blob.now.id what) (place_with c.args.page what) c.args.self.now c.args.self.now c.change_here.new.self c.args.changed.now.entries c.take_altered.new.changed.entries c.change_here.new.changed.entries refl refl c.in_ok-found.ensures.others c.in_ok-all.ensures.puts in
+    let puts = puts_over c.args.page c.args.blob.now.id (slots_with c.without-slots.result c.args.blob.now.id what) (place_with c.args.page what) c.args.self.now c.args.self.now c.change_here.new.self c.args.changed.now.entries c.take_slots.new.changed.entries c.change_here.new.changed.entries refl refl c.in_ok-found.ensures.others c.in_ok-all.ensures.puts in
     let first = changed_here c.args.self.now c.change_here.new.self c.args.changed.now.entries c.change_here.new.changed.entries (g.G.Pages.held c.args.pages.now) (g.G.Pages.in_use c.args.pages.now) (g.G.Pages.in_file c.args.pages.now) c.args.page c.args.blob.now.id c.without-slots.result what
-    (c.requires.stands t) c.requires.here (c.without-slots.ensures ∙ ap (λ l. filter (λ (s : Slot). not (eqb s.id c.args.blob.now.id)) l) (subst (λ (o : Option (List Slot)). IfSome o (λ slots. slots ≡ slots_now c.args.changed.now.entries (g.G.Pages.held c.args.pages.now) c.args.page)) c.in-Some.is (c.in_ok-found.ensures.value t))) puts in
+    (c.requires.stands t) c.requires.here (c.without-slots.ensures ∙ ap (λ l. filter (λ (s : Slot). not (eqb s.id c.args.blob.now.id)) l) (c.in_ok-found.ensures.value t)) puts in
     then_ok c.add.result
-    (Done c.change_here.new.self c.add.new.self c.change_here.new.changed.entries c.add.new.changed.entries (g.G.Pages.held c.take_altered.new.pages) (g.G.Pages.in_use c.take_altered.new.pages) (g.G.Pages.in_file c.take_altered.new.pages) c.args.blob.now.id (Some c.in-Some-bytes.bytes))
+    (Done c.change_here.new.self c.add.new.self c.change_here.new.changed.entries c.add.new.changed.entries (g.G.Pages.held c.take_slots.new.pages) (g.G.Pages.in_use c.take_slots.new.pages) (g.G.Pages.in_file c.take_slots.new.pages) c.args.blob.now.id (Some c.in-Some.bytes))
     (Done c.args.self.now c.add.new.self c.args.changed.now.entries c.add.new.changed.entries (g.G.Pages.held c.args.pages.now) (g.G.Pages.in_use c.args.pages.now) (g.G.Pages.in_file c.args.pages.now) c.args.blob.now.id c.args.blob.now.bytes)
     (λ added.
-    let second = at_pages (λ h u f. Done c.change_here.new.self c.add.new.self c.change_here.new.changed.entries c.add.new.changed.entries h u f c.args.blob.now.id (Some c.in-Some-bytes.bytes)) (g.G.Pages.held c.args.pages.now) (g.G.Pages.held c.take_altered.new.pages) (g.G.Pages.in_use c.args.pages.now) (g.G.Pages.in_use c.take_altered.new.pages) (g.G.Pages.in_file c.args.pages.now) (g.G.Pages.in_file c.take_altered.new.pages)
+    let second = at_pages (λ h u f. Done c.change_here.new.self c.add.new.self c.change_here.new.changed.entries c.add.new.changed.entries h u f c.args.blob.now.id (Some c.in-Some.bytes)) (g.G.Pages.held c.args.pages.now) (g.G.Pages.held c.take_slots.new.pages) (g.G.Pages.in_use c.args.pages.now) (g.G.Pages.in_use c.take_slots.new.pages) (g.G.Pages.in_file c.args.pages.now) (g.G.Pages.in_file c.take_slots.new.pages)
     (c.in_ok-found.ensures.told t) c.in_ok-found.ensures.in_use c.in_ok-found.ensures.in_file added in
     subst (λ (o : Option (List ℕ)). Done c.args.self.now c.add.new.self c.args.changed.now.entries c.add.new.changed.entries (g.G.Pages.held c.args.pages.now) (g.G.Pages.in_use c.args.pages.now) (g.G.Pages.in_file c.args.pages.now) c.args.blob.now.id o)
-    (sym c.in-Some-bytes.is)
-    (done_then c.args.self.now c.change_here.new.self c.add.new.self c.args.changed.now.entries c.change_here.new.changed.entries c.add.new.changed.entries (g.G.Pages.held c.args.pages.now) (g.G.Pages.in_use c.args.pages.now) (g.G.Pages.in_file c.args.pages.now) c.args.blob.now.id what (Some c.in-Some-bytes.bytes) first second))
+    (sym c.in-Some.is)
+    (done_then c.args.self.now c.change_here.new.self c.add.new.self c.args.changed.now.entries c.change_here.new.changed.entries c.add.new.changed.entries (g.G.Pages.held c.args.pages.now) (g.G.Pages.in_use c.args.pages.now) (g.G.Pages.in_file c.args.pages.now) c.args.blob.now.id what (Some c.in-Some.bytes) first second))
     (c.add.ensures.done t)
-
--- ---- what stands under the id
-
-pub returns-in_default-clause-done : goal.returns-in_default-clause-done
-returns-in_default-clause-done g c = λ t.
-    subst (λ es. Done c.args.self.now c.args.self.now c.args.changed.now.entries es (g.G.Pages.held c.args.pages.now) (g.G.Pages.in_use c.args.pages.now) (g.G.Pages.in_file c.args.pages.now) c.args.blob.now.id c.args.blob.now.bytes) (sym (c.in_ok-found.ensures.kept c.in_default.is))
-    (nothing_done c.args.self.now c.args.changed.now.entries (g.G.Pages.held c.args.pages.now) (g.G.Pages.in_use c.args.pages.now) (g.G.Pages.in_file c.args.pages.now) c.args.blob.now.id c.args.blob.now.bytes (c.requires.stands t)
-    (bytes_here c.args.self.now c.args.changed.now.entries (g.G.Pages.held c.args.pages.now) c.args.blob.now.id c.args.page c.requires.here ∙ (c.in_ok-found.ensures.same t).0 c.in_default.is))
-
-pub returns-in_default-clause-alters : goal.returns-in_default-clause-alters
-returns-in_default-clause-alters g c = λ t.
-    kept_here c.args.self.now c.args.changed.now.entries c.take_altered.new.changed.entries (g.G.Pages.held c.args.pages.now) c.args.blob.now.id c.args.page c.args.blob.now.bytes c.requires.here ((c.in_ok-found.ensures.same t).0 c.in_default.is) (c.in_ok-found.ensures.bytes t) (c.in_ok-found.ensures.kept c.in_default.is)
-
-pub returns-then-all-clause-alters : goal.returns-then-all-clause-alters
-returns-then-all-clause-alters g c = λ t.
-    altered_here c.args.self.now c.args.changed.now.entries c.change_here.new.changed.entries (g.G.Pages.held c.args.pages.now) c.args.blob.now.id c.args.page c.args.blob.now.bytes c.requires.here (λ e. (let none = (c.in_ok-found.ensures.same t).1 e in let some = c.in-Some.is in cc)) (c.in_ok-found.ensures.bytes t) (put_some _ _ _ _ _ _ _ _ c.in_ok-all.ensures.puts)
-
-pub returns-in_default-bytes-clause-alters : goal.returns-in_default-bytes-clause-alters
-returns-in_default-bytes-clause-alters g c = λ t.
-    altered_here c.args.self.now c.args.changed.now.entries c.change_here.new.changed.entries (g.G.Pages.held c.args.pages.now) c.args.blob.now.id c.args.page c.args.blob.now.bytes c.requires.here (λ e. (let none = (c.in_ok-found.ensures.same t).1 e in let some = c.in-Some.is in cc)) (c.in_ok-found.ensures.bytes t) (put_some _ _ _ _ _ _ _ _ c.in_ok-all.ensures.puts)
-
-pub returns-clause-alters : goal.returns-clause-alters
-returns-clause-alters g c = λ t.
-    then_ok c.add.result (0 < length c.add.new.changed.entries) (Alters c.args.self.now c.args.changed.now.entries c.add.new.changed.entries (g.G.Pages.held c.args.pages.now) c.args.blob.now.id c.args.blob.now.bytes)
-    (λ some. altered_here c.args.self.now c.args.changed.now.entries c.add.new.changed.entries (g.G.Pages.held c.args.pages.now) c.args.blob.now.id c.args.page c.args.blob.now.bytes c.requires.here (λ e. (let none = (c.in_ok-found.ensures.same t).1 e in let some = c.in-Some.is in cc)) (c.in_ok-found.ensures.bytes t) some)
-    c.add.ensures.some

@@ -1,16 +1,13 @@
 use Rattle.std.proofs.Common.{◌<◌, ◌≤◌, length, get_or, refl, ap, subst, ◌∙◌, arith}
-use Rattle.wm_heap.specs.Content.{bytes_at, content}
-use Rattle.wm_heap.specs.Draft.{Alters, Done}
-use Rattle.wm_heap.proofs.Altering.{altering_begun, altering_on, altered, idle_on, idle_pages}
+use Rattle.wm_heap.specs.Draft.{Done}
 use Rattle.wm_heap.proofs.Standing.{at_pages}
-use Rattle.wm_heap.proofs.Planning.{going_begun, going_on, telling_begun, telling_on, planned, planned_few, planned_told}
+use Rattle.wm_heap.proofs.Planning.{going_begun, going_on, telling_begun, telling_on, planned, planned_few, planned_none, planned_told}
 use Rattle.wm_heap.proofs.heap.Heap.plan.Goals as goal
 
 pub loop-blob-init : goal.loop-blob-init
 loop-blob-init g c = record {
   going = going_begun c.args.self.now c.new-changed.result.entries c.args.batch.now c.new-changed.ensures.empty c.requires.once c.requires.small;
   few = omega (arith, ap length c.new-changed.ensures.empty);
-  idle = λ nothing. record { none = c.new-changed.ensures.empty; places = refl };
   within = omega arith;
   told = λ t. refl;
   past = λ t. refl;
@@ -19,7 +16,6 @@ loop-blob-init g c = record {
   in_file = refl;
   faults = refl;
   telling = λ t. telling_begun c.args.self.now c.new-changed.result.entries (g.G.Pages.held c.args.pages.now) (g.G.Pages.in_use c.args.pages.now) (g.G.Pages.in_file c.args.pages.now) c.args.batch.now c.new-changed.ensures.empty (c.requires.heap t) (c.requires.whole t);
-  altering = λ t. altering_begun c.args.self.now c.new-changed.result.entries (g.G.Pages.held c.args.pages.now) (g.G.Pages.in_use c.args.pages.now) c.args.batch.now c.new-changed.ensures.empty (c.requires.heap t);
 }
 
 pub loop-blob-preserved : goal.loop-blob-preserved
@@ -32,7 +28,6 @@ loop-blob-preserved g c =
     record {
       going = going_on c.args.self.now c.loop-blob.self c.change.new.self c.loop-blob.changed.entries c.change.new.changed.entries c.args.batch.now c.loop-blob.blob-index c.blob-item.result within is inv.going did.goes;
       few = omega (arith, inv.few, did.few);
-      idle = λ nothing. idle_on c.args.self.now c.loop-blob.self c.change.new.self c.loop-blob.changed.entries c.change.new.changed.entries c.args.batch.now c.loop-blob.blob-index c.blob-item.result within is nothing (inv.idle nothing) did.none did.places;
       within = omega (arith, within);
       told = λ t. did.told t ∙ inv.told t;
       past = λ t. did.past t ∙ inv.past t;
@@ -44,11 +39,6 @@ loop-blob-preserved g c =
           telling_on c.loop-blob.self c.change.new.self c.loop-blob.changed.entries c.change.new.changed.entries (g.G.Pages.held c.args.pages.now) (g.G.Pages.in_use c.args.pages.now) (g.G.Pages.in_file c.args.pages.now) c.args.batch.now c.loop-blob.blob-index c.blob-item.result within is inv.going.once (inv.telling t)
           (at_pages (λ h u f. Done c.loop-blob.self c.change.new.self c.loop-blob.changed.entries c.change.new.changed.entries h u f c.blob-item.result.id c.blob-item.result.bytes) (g.G.Pages.held c.args.pages.now) (g.G.Pages.held c.loop-blob.pages) (g.G.Pages.in_use c.args.pages.now) (g.G.Pages.in_use c.loop-blob.pages) (g.G.Pages.in_file c.args.pages.now) (g.G.Pages.in_file c.loop-blob.pages)
           (inv.told t) inv.in_use inv.in_file (did.done t));
-      altering = λ t.
-          altering_on c.loop-blob.self c.change.new.self c.loop-blob.changed.entries c.change.new.changed.entries (g.G.Pages.held c.args.pages.now) (g.G.Pages.in_use c.args.pages.now) (g.G.Pages.in_file c.args.pages.now) (bytes_at (content (g.G.Pages.held c.args.pages.now) (g.G.Pages.in_use c.args.pages.now))) c.args.batch.now c.loop-blob.blob-index c.blob-item.result within is inv.going.once (inv.altering t)
-          (at_pages (λ h u f. Done c.loop-blob.self c.change.new.self c.loop-blob.changed.entries c.change.new.changed.entries h u f c.blob-item.result.id c.blob-item.result.bytes) (g.G.Pages.held c.args.pages.now) (g.G.Pages.held c.loop-blob.pages) (g.G.Pages.in_use c.args.pages.now) (g.G.Pages.in_use c.loop-blob.pages) (g.G.Pages.in_file c.args.pages.now) (g.G.Pages.in_file c.loop-blob.pages)
-          (inv.told t) inv.in_use inv.in_file (did.done t))
-          (subst (λ h. Alters c.loop-blob.self c.loop-blob.changed.entries c.change.new.changed.entries h c.blob-item.result.id c.blob-item.result.bytes) (inv.told t) (did.alters t)) did.few;
     }
 
 pub returns-clause-plan : goal.returns-clause-plan
@@ -57,17 +47,11 @@ returns-clause-plan g c =
     let done = c.in_ok-batch.ensures in
     planned c.args.self.now c.loop-blob.self c.loop-blob.changed.entries c.args.batch.now c.loop-blob.blob-index c.page_count-before.result c.page_count.result c.in_ok-batch.batch.pages c.page_count-before.ensures c.page_count.ensures done.pages done.root inv.going
 
-pub returns-clause-idle : goal.returns-clause-idle
-returns-clause-idle g c = λ nothing.
-    let inv = c.loop-blob.invariant in
-    idle_pages c.args.self.now c.loop-blob.self c.loop-blob.changed.entries c.page_count-before.result c.page_count.result c.in_ok-batch.batch.pages c.page_count-before.ensures c.page_count.ensures c.in_ok-batch.ensures.pages inv.going.grows (inv.idle nothing)
-
-pub returns-clause-altered : goal.returns-clause-altered
-returns-clause-altered g c = λ t.
+pub returns-clause-nothing : goal.returns-clause-nothing
+returns-clause-nothing g c =
     let inv = c.loop-blob.invariant in
     let end : length c.args.batch.now ≤ c.loop-blob.blob-index = subst (λ bs. length bs ≤ c.loop-blob.blob-index) c.as_slice-blob-items.ensures c.loop-blob-test.false in
-    altered c.args.self.now c.loop-blob.self c.loop-blob.changed.entries (g.G.Pages.held c.args.pages.now) (bytes_at (content (g.G.Pages.held c.args.pages.now) (g.G.Pages.in_use c.args.pages.now))) c.args.batch.now c.loop-blob.blob-index c.page_count-before.result c.page_count.result c.in_ok-batch.batch.pages
-    c.page_count-before.ensures c.page_count.ensures c.in_ok-batch.ensures.pages end c.requires.once inv.going.grows (inv.altering t)
+    planned_none c.args.self.now c.loop-blob.self c.loop-blob.changed.entries c.args.batch.now c.loop-blob.blob-index c.page_count-before.result c.page_count.result c.in_ok-batch.batch.pages c.page_count-before.ensures c.page_count.ensures c.in_ok-batch.ensures.pages end inv.going
 
 pub returns-clause-changed : goal.returns-clause-changed
 returns-clause-changed g c = λ t.

@@ -1,8 +1,4 @@
-use Rattle.std.proofs.Common.{◌≡◌, ◌*◌, ◌≤◌, false, is_some, length}
-use Rattle.wm_heap.specs.Blobs.{change_something}
-use Rattle.wm_heap.specs.Content.{bytes_at, content}
-use Rattle.wm_heap.specs.Places.{place_of}
-use Rattle.wm_heap.proofs.Altering.{Altering, Idle}
+use Rattle.std.proofs.Common.{◌≡◌, ◌*◌, ◌≤◌, length}
 use Rattle.wm_heap.proofs.Planning.{Going, Telling}
 use Rattle.wm_heap.proofs.heap.Heap.plan.Given as goal
 
@@ -10,7 +6,6 @@ abbrev pub invariant-loop-blob : goal.invariant-loop-blob
 invariant-loop-blob g l = record {
   going : Going l.fn.self l.self l.changed.entries l.fn.batch l.blob-index;
   few : length l.changed.entries ≤ 2 * l.blob-index;
-  idle : change_something (λ id. is_some (place_of l.fn.self id)) l.fn.batch ≡ false → Idle l.fn.self l.self l.changed.entries;
   within : l.blob-index ≤ length l.fn.batch;
   told : g.G.Pages.tells → g.G.Pages.held l.pages ≡ g.G.Pages.held l.fn.pages;
   past : g.G.Pages.tells → g.G.Pages.past l.pages ≡ g.G.Pages.past l.fn.pages;
@@ -19,5 +14,4 @@ invariant-loop-blob g l = record {
   in_file : g.G.Pages.in_file l.pages ≡ g.G.Pages.in_file l.fn.pages;
   faults : g.G.Pages.faults l.pages ≡ g.G.Pages.faults l.fn.pages;
   telling : g.G.Pages.tells → Telling l.self l.changed.entries (g.G.Pages.held l.fn.pages) (g.G.Pages.in_use l.fn.pages) (g.G.Pages.in_file l.fn.pages) l.fn.batch l.blob-index;
-  altering : g.G.Pages.tells → Altering l.self l.changed.entries (g.G.Pages.held l.fn.pages) (bytes_at (content (g.G.Pages.held l.fn.pages) (g.G.Pages.in_use l.fn.pages))) l.fn.batch l.blob-index;
 }
