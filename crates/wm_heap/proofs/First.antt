@@ -1,8 +1,5 @@
 -- The heap of a store with one page.
-use Rattle.std.proofs.Common.{◌≡◌, ℕ, ◌+◌, ◌<◌, ◌≤◌, Bool, true, false, cond, eqb, List, [], ◌∷◌, ◌++◌, length, get_or, take, Option, Some, None, is_some, unwrap_or, refl, sym, ap, subst, ◌∙◌, arith}
-use Rattle.std.specs.Option.{option_or}
-use Rattle.std.proofs.lemmas.Bool.{eqb-true}
-use Rattle.std.proofs.lemmas.List.{take_more}
+use Rattle.std.proofs.Common.{◌≡◌, ℕ, ◌+◌, ◌<◌, ◌≤◌, Bool, true, false, cond, eqb, List, [], ◌∷◌, ◌++◌, length, Option, Some, None, is_some, unwrap_or, refl, sym, ap, subst, ◌∙◌, arith}
 use Rattle.wm_heap.specs.declared.blob.Blob.{Blob}
 use Rattle.wm_heap.specs.declared.heap.Heap.{Heap}
 use Rattle.wm_heap.specs.declared.slot.Slot.{Slot}
@@ -10,7 +7,6 @@ use Rattle.wm_heap.specs.Slots.{slots_of, page_of}
 use Rattle.wm_heap.specs.Content.{bytes_at, slots_in, fault_of}
 use Rattle.wm_heap.specs.Blobs.{blob_at, AreBlobs, slots_of_bytes, slots_put}
 use Rattle.wm_heap.specs.Places.{ids_on, ids_of, place_of, Once, IsPlaced, IsHeapOf}
-use Rattle.wm_heap.proofs.Finding.{bytes_at-append}
 use Rattle.wm_heap.proofs.Planning.{AreBlobs-rest}
 use Rattle.wm_heap.proofs.Upto.{sound}
 
@@ -34,22 +30,6 @@ once_put (b ∷ blobs) once =
     by_bytes : (o : Option (List ℕ)) → bytes_at (slots_put blobs) b.id ≡ None → Once (slots_put blobs) → Once (slots_of_bytes b.id o ++ slots_put blobs)
     by_bytes None none rest = rest
     by_bytes (Some bytes) none rest = (none, rest)
-
--- a slot more has its place
-pub place_more : (old now new : ℕ → Option ℕ) (page : ℕ) (slots : List Slot) (i : ℕ) (s : Slot) → i < length slots → s ≡ get_or slots i s → ((id : ℕ) → now id ≡ cond (is_some (bytes_at (take i slots) id)) (Some page) (old id))
-    → ((j : ℕ) → new j ≡ cond (eqb j s.id) (Some page) (now j)) → (id : ℕ) → new id ≡ cond (is_some (bytes_at (take (i + 1) slots) id)) (Some page) (old id)
-place_more old now new page slots i s within is before set id =
-    let up_to : take (i + 1) slots ≡ take i slots ++ s ∷ [] = take_more slots i s within ∙ ap (λ x. take i slots ++ x ∷ []) (sym is) in
-    set id ∙ ap (λ o. cond (eqb id s.id) (Some page) o) (before id)
-    ∙ sym (ap (λ l. cond (is_some (bytes_at l id)) (Some page) (old id)) up_to ∙ ap (λ o. cond (is_some o) (Some page) (old id)) (bytes_at-append (take i slots) (s ∷ []) id) ∙ by_tests (bytes_at (take i slots) id) (eqb id s.id) refl (eqb s.id id) refl)
-  where
-    by_tests : (o : Option (List ℕ)) (b : Bool) → eqb id s.id ≡ b → (d : Bool) → eqb s.id id ≡ d → cond (is_some (option_or o (cond d (Some s.bytes) None))) (Some page) (old id) ≡ cond b (Some page) (cond (is_some o) (Some page) (old id))
-    by_tests (Some x) true e d f = refl
-    by_tests (Some x) false e d f = refl
-    by_tests None true e true f = refl
-    by_tests None true e false f = absurd (let same = eqb-true id s.id e in grind (arith, same, f))
-    by_tests None false e true f = absurd (let same = eqb-true s.id id f in grind (arith, same, e))
-    by_tests None false e false f = refl
 
 first_placed : (held : ℕ → List ℕ) (slots : List Slot) (place : ℕ → Option ℕ) → slots_of (held 2) ≡ Some slots → Once slots → ((id : ℕ) → place id ≡ cond (is_some (bytes_at slots id)) (Some 2) None) → IsPlaced (slots_in held) 3 place
 first_placed held slots place is once placed = record {

@@ -1,8 +1,10 @@
 pub mod Altering
 pub mod Finding
 pub mod First
+pub mod Fronts
 pub mod Getting
 pub mod Loading
+pub mod Packed
 pub mod Pages
 pub mod Pending
 pub mod Planning

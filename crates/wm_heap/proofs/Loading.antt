@@ -1,8 +1,6 @@
 -- How the ids of a page get their places, one slot after another.
-use Rattle.std.proofs.Common.{◌≡◌, ℕ, zero, suc, ◌+◌, ◌-◌, ◌<◌, ◌≤◌, ◌⊎◌, inl, inr, max, Bool, true, false, cond, ◌||◌, eqb, ltb, List, [], ◌∷◌, ◌++◌, length, length-append, get_or, take, drop, Option, Some, None, is_some, unwrap_or, refl, sym, ap, subst, ◌∙◌, arith}
-use Rattle.std.specs.Option.{option_or}
-use Rattle.std.proofs.lemmas.Bool.{cases_lt, lt-ltb, eqb-true}
-use Rattle.std.proofs.lemmas.List.{drop_more, take_more}
+use Rattle.std.proofs.Common.{◌≡◌, ℕ, zero, suc, ◌+◌, ◌-◌, ◌<◌, ◌≤◌, ◌⊎◌, inl, inr, max, Bool, true, false, cond, ltb, List, [], ◌∷◌, ◌++◌, length, length-append, get_or, Option, Some, None, is_some, unwrap_or, refl, sym, ap, subst, ◌∙◌, arith}
+use Rattle.std.proofs.lemmas.Bool.{cases_lt, lt-ltb}
 use Rattle.wm_base.specs.declared.fault.OpenFault.{OpenFault}
 use Rattle.wm_base.specs.declared.fault.OpenFault.TheVariants as faults
 use Rattle.wm_heap.specs.declared.heap.Heap.{Heap}
@@ -12,51 +10,13 @@ use Rattle.wm_heap.specs.Places.{at, ids_on, ids_of, page_count, place_of, IsPla
 use Rattle.wm_heap.proofs.Upto.{is_in-placed, fault_found, IsPlaced-page}
 use Rattle.wm_heap.specs.declared.slot.Slot.{Slot}
 use Rattle.wm_heap.specs.Content.{bytes_at, is_twice, slots_in, is_in, damage_on, fault_in, fault_of}
-use Rattle.wm_heap.proofs.Finding.{bytes_at-append, is_twice-same}
+use Rattle.wm_heap.proofs.Finding.{is_twice-same}
 
--- the first i slots have their places, and those behind them are tested as all would have been at first
-pub record Placing (old now : ℕ → Option ℕ) (page : ℕ) (slots : List Slot) (i : ℕ) : Type 0 where
-  pub rest : is_twice (λ id. is_some (now id)) (drop i slots) ≡ is_twice (λ id. is_some (old id)) slots
-  pub placed : (id : ℕ) → now id ≡ cond (is_some (bytes_at (take i slots) id)) (Some page) (old id)
-
-pub placing_none : (old now : ℕ → Option ℕ) (page : ℕ) (slots : List Slot) → ((id : ℕ) → now id ≡ old id) → Placing old now page slots 0
-placing_none old now page slots same = record {
-  rest = is_twice-same (λ id. is_some (now id)) (λ id. is_some (old id)) slots (λ id. ap is_some (same id));
-  placed = λ id. same id;
-}
-
--- an id that has no place is none that stands twice, and the next ones are tested with it
-pub twice_next : (old new : ℕ → Option ℕ) (page : ℕ) (s : Slot) (slots : List Slot) → is_some (old s.id) ≡ false → ((j : ℕ) → new j ≡ cond (eqb j s.id) (Some page) (old j))
-    → is_twice (λ j. is_some (new j)) slots ≡ is_twice (λ j. is_some (old j)) (s ∷ slots)
-twice_next old new page s slots free set =
-    is_twice-same (λ j. is_some (new j)) (λ j. eqb s.id j || is_some (old j)) slots (λ j. ap is_some (set j) ∙ by_tests j (eqb j s.id) refl (eqb s.id j) refl) ∙ rw free refl
-  where
-    by_tests : (j : ℕ) (b : Bool) → eqb j s.id ≡ b → (d : Bool) → eqb s.id j ≡ d → is_some (cond b (Some page) (old j)) ≡ (d || is_some (old j))
-    by_tests j true e true f = refl
-    by_tests j true e false f = absurd (let same = eqb-true j s.id e in grind (arith, same, f))
-    by_tests j false e true f = absurd (let same = eqb-true s.id j f in grind (arith, same, e))
-    by_tests j false e false f = refl
-
-pub placing_more : (old now new : ℕ → Option ℕ) (page : ℕ) (slots : List Slot) (i : ℕ) (s : Slot) → i < length slots → s ≡ get_or slots i s → Placing old now page slots i → is_some (now s.id) ≡ false
-    → ((j : ℕ) → new j ≡ cond (eqb j s.id) (Some page) (now j)) → Placing old new page slots (i + 1)
-placing_more old now new page slots i s within is placing free set =
-    let at_i : drop i slots ≡ s ∷ drop (i + 1) slots = drop_more slots i s within ∙ ap (λ x. x ∷ drop (i + 1) slots) (sym is) in
-    let up_to : take (i + 1) slots ≡ take i slots ++ s ∷ [] = take_more slots i s within ∙ ap (λ x. take i slots ++ x ∷ []) (sym is) in
-    record {
-      rest = twice_next now new page s (drop (i + 1) slots) free set ∙ ap (λ l. is_twice (λ j. is_some (now j)) l) (sym at_i) ∙ placing.rest;
-      placed = λ id. set id ∙ ap (λ o. cond (eqb id s.id) (Some page) o) (placing.placed id) ∙ sym (ap (λ l. cond (is_some (bytes_at l id)) (Some page) (old id)) up_to ∙ placed_by id);
-    }
-  where
-    by_tests : (id : ℕ) (o : Option (List ℕ)) (b : Bool) → eqb id s.id ≡ b → (d : Bool) → eqb s.id id ≡ d → cond (is_some (option_or o (cond d (Some s.bytes) None))) (Some page) (old id) ≡ cond b (Some page) (cond (is_some o) (Some page) (old id))
-    by_tests id (Some x) true e d f = refl
-    by_tests id (Some x) false e d f = refl
-    by_tests id None true e true f = refl
-    by_tests id None true e false f = absurd (let same = eqb-true id s.id e in grind (arith, same, f))
-    by_tests id None false e true f = absurd (let same = eqb-true s.id id f in grind (arith, same, e))
-    by_tests id None false e false f = refl
-
-    placed_by : (id : ℕ) → cond (is_some (bytes_at (take i slots ++ s ∷ []) id)) (Some page) (old id) ≡ cond (eqb id s.id) (Some page) (cond (is_some (bytes_at (take i slots) id)) (Some page) (old id))
-    placed_by id = ap (λ o. cond (is_some o) (Some page) (old id)) (bytes_at-append (take i slots) (s ∷ []) id) ∙ by_tests id (bytes_at (take i slots) id) (eqb id s.id) refl (eqb s.id id) refl
+-- the slots up to the rest have their places; those of the rest are tested as all would have been at first, and placed
+-- they would stand where all would
+pub record Placing (old now : ℕ → Option ℕ) (page : ℕ) (slots rest : List Slot) : Type 0 where
+  pub tested : is_twice (λ id. is_some (now id)) rest ≡ is_twice (λ id. is_some (old id)) slots
+  pub placed : (id : ℕ) → cond (is_some (bytes_at rest id)) (Some page) (now id) ≡ cond (is_some (bytes_at slots id)) (Some page) (old id)
 
 -- ---- one page after another
 

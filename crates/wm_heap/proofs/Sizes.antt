@@ -1,10 +1,10 @@
 -- How many bytes slots take.
-use Rattle.std.proofs.Common.{◌≡◌, ℕ, zero, suc, ◌+◌, ◌<◌, ◌≤◌, Bool, true, false, cond, ltb, List, [], ◌∷◌, ◌++◌, length, filter, get_or, take, drop, Option, Some, None, refl, sym, ap, ◌∙◌, arith}
+use Rattle.std.proofs.Common.{◌≡◌, ℕ, zero, suc, ◌+◌, ◌≤◌, Bool, true, false, cond, ltb, List, [], ◌∷◌, ◌++◌, length, filter, take, drop, Option, Some, None, refl, ap, ◌∙◌, arith}
 use Rattle.std.specs.Int.{w16, w64, to_be_bytes, from_be_bytes}
-use Rattle.std.specs.List.{flat_map, AllByRecursion}
+use Rattle.std.specs.List.{flat_map}
 use Rattle.std.specs.Option.{option_and_then, option_map}
 use Rattle.std.proofs.lemmas.Bool.{ltb-false}
-use Rattle.std.proofs.lemmas.List.{length-append, length-take, length-drop, drop_more}
+use Rattle.std.proofs.lemmas.List.{length-append, length-take, length-drop}
 use Rattle.std.proofs.lemmas.List.Concat.{flat_map-cons}
 use Rattle.std.proofs.lemmas.Option.{same_Some}
 use Rattle.wm_codec.specs.Format.{times}
@@ -21,10 +21,10 @@ length-long n = refl
 
 -- ---- spelled
 
-length-slot : (s : Slot) → length (slot.spell s) ≡ 10 + length s.bytes
+pub length-slot : (s : Slot) → length (slot.spell s) ≡ 10 + length s.bytes
 length-slot s = omega (arith, length-append (to_be_bytes w64 s.id) (to_be_bytes w16 (length s.bytes) ++ s.bytes), length-append (to_be_bytes w16 (length s.bytes)) s.bytes, length-long s.id, length-short (length s.bytes))
 
-length-slots : (slots : List Slot) → length (flat_map slot.spell slots) + 2 ≡ used slots
+pub length-slots : (slots : List Slot) → length (flat_map slot.spell slots) + 2 ≡ used slots
 length-slots [] = refl
 length-slots (s ∷ slots) =
     let one = ap length (flat_map-cons slot.spell s slots) ∙ length-append (slot.spell s) (flat_map slot.spell slots) in
@@ -37,9 +37,9 @@ pub used-least : (slots : List Slot) → 2 ≤ used slots
 used-least [] = omega arith
 used-least (s ∷ slots) = omega (arith, used-least slots)
 
-pub can_spell : (slots : List Slot) → used slots ≤ 4096 → AllByRecursion slot.CanSpell slots
-can_spell [] fits = tt
-can_spell (s ∷ slots) fits = let least = used-least slots in ((tt, omega arith), can_spell slots (omega arith))
+pub length-used : (slots : List Slot) → length slots ≤ used slots
+length-used [] = omega arith
+length-used (s ∷ slots) = omega (arith, length-used slots)
 
 pub used-push : (slots : List Slot) (s : Slot) → used (slots ++ s ∷ []) ≡ used slots + 10 + length s.bytes
 used-push [] s = omega arith
@@ -52,10 +52,6 @@ used-filter p (s ∷ slots) = by_test (p s) (used-filter p slots)
     by_test : (b : Bool) → used (filter p slots) ≤ used slots → used (cond b (s ∷ filter p slots) (filter p slots)) ≤ 10 + length s.bytes + used slots
     by_test true rest = omega arith
     by_test false rest = omega arith
-
--- the slots from one on
-pub used-drop : (slots : List Slot) (i : ℕ) (s : Slot) → i < length slots → s ≡ get_or slots i s → used (drop i slots) ≡ 10 + length s.bytes + used (drop (i + 1) slots)
-used-drop slots i s within is = ap used (drop_more slots i s within ∙ ap (λ x. x ∷ drop (i + 1) slots) (sym is))
 
 -- ---- read
 
@@ -89,7 +85,7 @@ slot_takes bytes rest s e =
     let rest_is : b.0.1 ≡ rest = ap (λ p. p.1) pair_is ∙ ap (λ p. p.1) m.2 in
     omega (arith, front, back, ap length bytes_are, ap length rest_is)
 
-times_takes : (n : ℕ) (bytes rest : List ℕ) (slots : List Slot) → times slot n bytes ≡ Some (slots, rest) → used slots + length rest ≡ length bytes + 2
+pub times_takes : (n : ℕ) (bytes rest : List ℕ) (slots : List Slot) → times slot n bytes ≡ Some (slots, rest) → used slots + length rest ≡ length bytes + 2
 times_takes zero bytes rest slots e =
     let p = same_Some ([], bytes) (slots, rest) e in
     let slots_are : [] ≡ slots = ap (λ p. p.0) p in

@@ -5,3 +5,4 @@ pub mod Draft
 pub mod Places
 pub mod Plan
 pub mod Slots
+pub mod Walk

@@ -1,9 +1,10 @@
 -- The records of a page: the number of its slots in two bytes, and the slots; what follows means nothing.
-use Rattle.std.specs.Prelude.{ℕ, ◌+◌, ◌-◌, List, [], ◌∷◌, ◌++◌, length, replicate, Option}
+use Rattle.std.specs.Prelude.{◌≡◌, ℕ, zero, suc, ◌+◌, ◌-◌, List, [], ◌∷◌, ◌++◌, length, replicate, Option, unwrap_or}
 use Rattle.std.specs.List.{flat_map}
 use Rattle.std.specs.Option.{option_and_then, option_map}
 use Rattle.wm_codec.specs.Format.{Format, ◌▸◌, fields, times}
 use Rattle.wm_codec.specs.Fields.{u16, u64, text}
+use Rattle.wm_codec.specs.Writing.{AppendsEach}
 use Rattle.wm_heap.specs.declared.slot.Slot.{Slot}
 
 -- a slot: the id of a record, two bytes of length, and so many bytes
@@ -26,3 +27,13 @@ page_of slots = slots_bytes slots ++ replicate (4096 - length (slots_bytes slots
 abbrev pub used : List Slot → ℕ
 used [] = 2
 used (s ∷ slots) = 10 + length s.bytes + used slots
+
+-- the slots that bytes begin with, up to so many
+unfoldable pub slots_at : ℕ → List ℕ → List Slot
+slots_at zero bytes = []
+slots_at (suc n) bytes = unwrap_or (option_map (λ x. x.0 ∷ slots_at n x.1) (slot.read bytes)) []
+
+-- bytes are so many slots one behind the other, and nothing else
+pub record IsPacked (slots : List Slot) (count : ℕ) (bytes : List ℕ) : Type 0 where
+  pub count_is : count ≡ length slots
+  pub bytes_are : AppendsEach slot [] bytes slots

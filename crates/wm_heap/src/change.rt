@@ -33,7 +33,7 @@ impl Heap {
         ensures places { self.new.places ≡ self.old.places }
         ensures few { OnOk result (length changed.new.entries ≤ length changed.old.entries + 1) }
     {
-        let ids = ids_of_slots(alloc, slots.as_slice())?;
+        let ids = ids_of_slots(alloc, &slots)?;
         self.room.keep(page, slots.left())?;
         let at = (page - 2) as usize;
         if at < self.ids.len() {

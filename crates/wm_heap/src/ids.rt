@@ -2,7 +2,7 @@
 ghost use Rattle.std.specs.Prelude.{◌≡◌, IfOk};
 ghost use Rattle.wm_heap.specs.Places.{ids_of};
 
-use crate::slot::Slot;
+use crate::slot::Slots;
 use std::alloc::Global;
 use std::marker::Model;
 use wm_base::Memory;
@@ -31,11 +31,11 @@ impl Ids {
 }
 
 /// The ids of the slots, in order.
-pub fn ids_of_slots(alloc: Global, slots: &[Slot]) -> Result<Ids, Memory>
+pub fn ids_of_slots(alloc: Global, slots: &Slots) -> Result<Ids, Memory>
     ensures { IfOk result (λ ids. ids ≡ ids_of slots.now) }
 {
     let mut list = Vec::with_capacity(alloc, slots.len())?;
-    for slot in slots {
+    for slot in slots.iter() {
         list.push(slot.id)?;
     }
     Ok(Ids { list })

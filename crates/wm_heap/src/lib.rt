@@ -13,6 +13,7 @@ mod room;
 pub mod slot;
 pub mod spot;
 mod stored;
+pub mod walk;
 mod writing;
 
 pub use blob::{Blob, Blobs};
@@ -20,4 +21,5 @@ pub use heap::Heap;
 pub use reading::read_slots;
 pub use slot::{Slot, Slots};
 pub use spot::{Spot, Spots};
+pub use walk::{SlotIter, SlotRef};
 pub use writing::write_slots;

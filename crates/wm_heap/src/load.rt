@@ -18,7 +18,7 @@ use crate::ids::{Ids, ids_of_slots};
 use crate::places::{Places, set_page_of};
 use crate::reading::read_slots;
 use crate::room::Room;
-use crate::slot::{Slot, Slots, slot_of};
+use crate::slot::{Slots, slot_of};
 use crate::writing::write_slots;
 use std::alloc::Global;
 use wm_base::{Damage, Memory, OpenFault};
@@ -60,12 +60,12 @@ fn load_slots<G: Pages>(alloc: Global, pages: &mut G, page: u64) -> Result<Slots
 }
 
 /// Keeps the page of each id of the slots.
-fn place_all(places: &mut Places, page: u64, slots: &[Slot]) -> Result<(), OpenFault>
+fn place_all(places: &mut Places, page: u64, slots: &Slots) -> Result<(), OpenFault>
     ensures ok { OnOk result (is_twice (λ id. is_some (at places.old.entries id)) slots.now ≡ false) }
     ensures placed { OnOk result ((id : ℕ) → at places.new.entries id ≡ (if is_some (bytes_at slots.now id) then Some page else at places.old.entries id)) }
     ensures twice { IfErr result (λ e. FindsTwice e page (is_twice (λ id. is_some (at places.old.entries id)) slots.now)) }
 {
-    for slot in slots {
+    for slot in slots.iter() {
         let before = set_page_of(places, slot.id, page)?;
         if before.is_some() {
             return Err(OpenFault::Damaged {
@@ -97,8 +97,8 @@ impl Heap {
         ensures ids { OnOk result (self.new.ids.items ≡ self.old.ids.items ++ ids_of slots.now ∷ []) }
         ensures twice { IfErr result (λ e. FindsTwice e page (is_twice (λ id. is_some (place_of self.old id)) slots.now)) }
     {
-        place_all(&mut self.places, page, slots.as_slice())?;
-        self.ids.push(ids_of_slots(alloc, slots.as_slice())?)?;
+        place_all(&mut self.places, page, slots)?;
+        self.ids.push(ids_of_slots(alloc, slots)?)?;
         self.room.prefer(page);
         self.room.keep(page, slots.left())?;
         Ok(())
@@ -164,9 +164,9 @@ impl Heap {
     {
         let slots = slots_of_blobs(alloc, batch.as_slice())?;
         let mut places = Places::new(alloc);
-        place_each(&mut places, 2, slots.as_slice())?;
+        place_each(&mut places, 2, &slots)?;
         let mut ids = Vec::new(alloc);
-        ids.push(ids_of_slots(alloc, slots.as_slice())?)?;
+        ids.push(ids_of_slots(alloc, &slots)?)?;
         let mut room = Room::new(alloc);
         room.prefer(2);
         room.keep(2, slots.left())?;
@@ -189,10 +189,10 @@ fn slots_of_blobs(alloc: Global, blobs: &[Blob]) -> Result<Slots, Memory>
 }
 
 /// Keeps the page of each id of the slots.
-fn place_each(places: &mut Places, page: u64, slots: &[Slot]) -> Result<(), Memory>
+fn place_each(places: &mut Places, page: u64, slots: &Slots) -> Result<(), Memory>
     ensures { OnOk result ((id : ℕ) → at places.new.entries id ≡ (if is_some (bytes_at slots.now id) then Some page else at places.old.entries id)) }
 {
-    for slot in slots {
+    for slot in slots.iter() {
         set_page_of(places, slot.id, page)?;
     }
     Ok(())

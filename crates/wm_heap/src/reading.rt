@@ -1,70 +1,44 @@
 //! The bytes of a page as slots.
-ghost use Rattle.std.specs.Prelude.{◌≡◌, IfOk};
-ghost use Rattle.wm_codec.specs.Fields.{text_at};
+ghost use Rattle.std.specs.Prelude.{◌≡◌, IfOk, IfSome};
+ghost use Rattle.std.specs.Option.{option_map};
 ghost use Rattle.wm_codec.specs.Format.{times};
-ghost use Rattle.wm_codec.specs.Reading.{Gives};
-ghost use Rattle.wm_heap.specs.Slots.{slot, slots_of};
+ghost use Rattle.wm_heap.specs.Slots.{slot, slots_at, slots_of, IsPacked};
 
-use crate::slot::{Slot, Slots};
+use crate::slot::Slots;
+use crate::walk::slot_at;
 use std::alloc::Global;
-use wm_base::{Bytes, Memory};
-use wm_codec::fault::ReadFault;
-use wm_codec::numbers::{u16_at, u64_at};
+use wm_base::Memory;
 
-/// Two bytes of length, and so many bytes.
-#[tactic(auto, unfolding(wm_codec::specs::Fields::text_at))]
-fn bytes_of(alloc: Global, bytes: &[u8]) -> Result<(Bytes, &[u8]), ReadFault>
-    ensures { Gives (λ x. (x.0, x.1.now)) result (text_at bytes.now) }
+/// What is behind so many slots. None where they run past the end of the bytes.
+fn behind(count: u16, bytes: &[u8]) -> Option<&[u8]>
+    ensures { option_map (λ rest. rest.now) result ≡ option_map (λ x. x.1) (times slot count bytes.now) }
 {
-    let (len, rest) = u16_at(bytes)?;
-    let len = len as usize;
-    if rest.len() < len {
-        return Err(ReadFault::NoRecord);
-    }
-    let (front, rest) = rest.split_at(len);
-    let mut copy = Bytes::new(alloc);
-    copy.append(front)?;
-    Ok((copy, rest))
-}
-
-fn slot_of(alloc: Global, bytes: &[u8]) -> Result<(Slot, &[u8]), ReadFault>
-    ensures { Gives (λ x. (x.0, x.1.now)) result (slot.read bytes.now) }
-{
-    let (id, rest) = u64_at(bytes)?;
-    let (bytes, rest) = bytes_of(alloc, rest)?;
-    Ok((Slot { id, bytes }, rest))
-}
-
-/// So many slots.
-fn slots_times(alloc: Global, count: u16, bytes: &[u8]) -> Result<(Slots, &[u8]), ReadFault>
-    ensures { Gives (λ x. (x.0, x.1.now)) result (times slot count bytes.now) }
-{
-    let mut slots = Slots::new(alloc);
     let mut rest = bytes;
     for _ in 0..count {
-        let (slot, after) = slot_of(alloc, rest)?;
-        slots.push(slot)?;
+        let (_, after) = slot_at(rest)?;
         rest = after;
     }
-    Ok((slots, rest))
+    Some(rest)
 }
 
-#[tactic(auto, unfolding(crate::specs::Slots::slots_of))]
-fn slots_in(alloc: Global, page: &[u8]) -> Result<Slots, ReadFault>
-    ensures { Gives (λ x. x) result (slots_of page.now) }
+/// How many slots a page has, and their bytes. None where they run past its end.
+fn slots_in(page: &[u8]) -> Option<(u16, &[u8])>
+    ensures are { option_map (λ x. slots_at x.0 x.1.now) result ≡ slots_of page.now }
+    ensures packed { IfSome result (λ x. IsPacked (slots_at x.0 x.1.now) x.0 x.1.now) }
 {
-    let (count, rest) = u16_at(page)?;
-    let (slots, _behind) = slots_times(alloc, count, rest)?;
-    Ok(slots)
+    let (count, bytes) = page.split_first_chunk::<2>()?;
+    let count = u16::from_be_bytes(*count);
+    let rest = behind(count, bytes)?;
+    let (slots, _) = bytes.split_at(bytes.len() - rest.len());
+    Some((count, slots))
 }
 
 /// The slots of a page, or None exactly where they run past its end.
 pub fn read_slots(alloc: Global, page: &[u8]) -> Result<Option<Slots>, Memory>
     ensures { IfOk result (λ slots. slots ≡ slots_of page.now) }
 {
-    match slots_in(alloc, page) {
-        Ok(slots) => Ok(Some(slots)),
-        Err(ReadFault::NoRecord) => Ok(None),
-        Err(ReadFault::Memory) => Err(Memory),
-    }
+    let Some((count, slots)) = slots_in(page) else {
+        return Ok(None);
+    };
+    Ok(Some(Slots::copied(alloc, count, slots)?))
 }

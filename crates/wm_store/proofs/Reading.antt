@@ -30,15 +30,6 @@ are_records-append (s ∷ xs) ys a b = by_test (is_some (record_of s.bytes)) a (
     by_test true a rest = rest a
     by_test false a rest = absurd cc
 
--- one that is no record is enough
-pub are_records-bad : (xs ys : List Slot) (s : Slot) → record_of s.bytes ≡ None → are_records (xs ++ s ∷ ys) ≡ false
-are_records-bad [] ys s none = rw none refl
-are_records-bad (x ∷ xs) ys s none = by_test (is_some (record_of x.bytes)) (are_records-bad xs ys s none)
-  where
-    by_test : (t : Bool) → are_records (xs ++ s ∷ ys) ≡ false → cond t (are_records (xs ++ s ∷ ys)) false ≡ false
-    by_test true rest = rest
-    by_test false rest = refl
-
 -- what stands under an id is the record that its bytes spell
 pub record_at-records_in : (slots : List Slot) (id : ℕ) → are_records slots ≡ true → record_at (records_in slots) id ≡ option_and_then record_of (bytes_at slots id)
 unfolding record_at

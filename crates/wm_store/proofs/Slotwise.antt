@@ -1,6 +1,6 @@
 -- One slot after another is read, and one change after another is spelled.
-use Rattle.std.proofs.Common.{◌≡◌, ℕ, ◌+◌, ◌<◌, ◌≤◌, ◌↔◌, true, false, List, [], ◌∷◌, ◌++◌, length, get_or, take, drop, Option, Some, None, IfSome, refl, sym, ap, subst, ◌∙◌, append_assoc}
-use Rattle.std.proofs.lemmas.List.{take_more, drop_more, take-append-drop, append-nil}
+use Rattle.std.proofs.Common.{◌≡◌, ℕ, ◌+◌, ◌<◌, ◌≤◌, ◌↔◌, List, [], ◌∷◌, ◌++◌, length, get_or, take, drop, Option, Some, None, IfSome, refl, sym, ap, subst, ◌∙◌}
+use Rattle.std.proofs.lemmas.List.{take_more, drop_more}
 use Rattle.wm_spec.specs.declared.record.Record.{Record}
 use Rattle.wm_spec.specs.declared.record.stored.Stored.{Stored}
 use Rattle.wm_spec.specs.declared.record.batch.Change.{Change}
@@ -10,9 +10,8 @@ use Rattle.wm_codec.proofs.Exact.{IsBytes}
 use Rattle.wm_codec.proofs.ExactRecords.{record_takes, record_again}
 use Rattle.wm_heap.specs.declared.blob.Blob.{Blob}
 use Rattle.wm_heap.specs.declared.slot.Slot.{Slot}
-use Rattle.wm_store.specs.Opened.{stored_at, records_in, are_records}
+use Rattle.wm_store.specs.Opened.{records_in, are_records}
 use Rattle.wm_store.specs.Spelled.{FitPages, HaveSpellings, blob_of, blobs_of}
-use Rattle.wm_store.proofs.Reading.{records_in-append, are_records-append, are_records-bad}
 
 -- what is decoded is the record that the bytes spell
 pub decoded : (found : Option Record) (bytes : List ℕ) → IsBytes bytes → ((it : Record) → (found ≡ Some it) ↔ (HasSpelling it × (bytes ≡ spelling it))) → found ≡ record_of bytes
@@ -23,30 +22,10 @@ decoded None bytes fits iff = by_case (record_of bytes) refl
     by_case None e = refl
     by_case (Some r) e = (iff r).1 (record_takes bytes r fits e)
 
--- the records so far
-pub record ReadSlots (old now : List Stored) (slots : List Slot) : Type 0 where
-  pub are : are_records slots ≡ true
-  pub read : now ≡ old ++ records_in slots
-
-pub read_none : (old : List Stored) → ReadSlots old old []
-read_none old = record { are = refl; read = sym (append-nil old) }
-
-pub read_slot : (old now new : List Stored) (slots : List Slot) (i : ℕ) (s : Slot) (r : Record) → i < length slots → s ≡ get_or slots i s → ReadSlots old now (take i slots) → Some r ≡ record_of s.bytes → new ≡ now ++ stored_at s.id (Some r) → ReadSlots old new (take (i + 1) slots)
-read_slot old now new slots i s r within is read found pushed =
-    let up_to : take (i + 1) slots ≡ take i slots ++ s ∷ [] = take_more slots i s within ∙ ap (λ x. take i slots ++ x ∷ []) (sym is) in
-    subst (λ l. ReadSlots old new l) (sym up_to)
-    (record {
-      are = are_records-append (take i slots) (s ∷ []) read.are (rw (← found) refl);
-      read =
-          pushed ∙ ap (λ l. l ++ stored_at s.id (Some r)) read.read ∙ append_assoc old (records_in (take i slots)) (stored_at s.id (Some r))
-          ∙ ap (λ l. old ++ l) (ap (λ l. records_in (take i slots) ++ l) (sym (append-nil (stored_at s.id (Some r))) ∙ ap (λ o. stored_at s.id o ++ []) found) ∙ sym (records_in-append (take i slots) (s ∷ [])));
-    })
-
-pub bad_slot : (slots : List Slot) (i : ℕ) (s : Slot) → i < length slots → s ≡ get_or slots i s → record_of s.bytes ≡ None → are_records slots ≡ false
-bad_slot slots i s within is none =
-    let at_i : drop i slots ≡ s ∷ drop (i + 1) slots = drop_more slots i s within ∙ ap (λ x. x ∷ drop (i + 1) slots) (sym is) in
-    let all : take i slots ++ s ∷ drop (i + 1) slots ≡ slots = ap (λ l. take i slots ++ l) (sym at_i) ∙ take-append-drop i slots in
-    ap are_records (sym all) ∙ are_records-bad (take i slots) (drop (i + 1) slots) s none
+-- the records of the slots up to the rest
+pub record ReadSlots (old now : List Stored) (slots rest : List Slot) : Type 0 where
+  pub are : are_records rest ≡ are_records slots
+  pub read : now ++ records_in rest ≡ old ++ records_in slots
 
 -- ---- changes spelled
 

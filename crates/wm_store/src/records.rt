@@ -13,7 +13,7 @@ ghost use Rattle.wm_store.specs.Opened.{are_records, pages_opened, records_in};
 use std::alloc::Global;
 use wm_base::{Damage, Memory, OpenFault};
 use wm_codec::decode;
-use wm_heap::{Heap, Slot};
+use wm_heap::{Heap, Slots};
 use wm_page::Pages;
 use wm_spec::record::{Record, Records, Stored};
 
@@ -27,12 +27,12 @@ pub fn record_in(alloc: Global, bytes: &[u8]) -> Result<Option<Record>, Memory>
 
 /// Puts the records of the slots behind those that are there, up to one whose bytes are none, and tells whether each
 /// slot has one.
-fn read_slots(alloc: Global, records: &mut Records, slots: &[Slot]) -> Result<bool, Memory>
+fn read_slots(alloc: Global, records: &mut Records, slots: &Slots) -> Result<bool, Memory>
     ensures are { IfOk result (λ are. are ≡ are_records slots.now) }
     ensures read { IfOk result (λ are. are ≡ true → records.new ≡ records.old ++ records_in slots.now) }
 {
-    for slot in slots {
-        let Some(record) = record_in(alloc, slot.bytes.as_slice())? else {
+    for slot in slots.iter() {
+        let Some(record) = record_in(alloc, slot.bytes)? else {
             return Ok(false);
         };
         records.push(Stored {
@@ -64,7 +64,7 @@ impl RecordReader {
     }
 
     /// Puts the records of a page behind those that are there, unless an earlier page has a slot without one.
-    fn read(&mut self, alloc: Global, page: u64, slots: &[Slot]) -> Result<(), Memory>
+    fn read(&mut self, alloc: Global, page: u64, slots: &Slots) -> Result<(), Memory>
         ensures unread { OnOk result (self.new.unread ≡ option_or self.old.unread (if are_records slots.now then None else Some page)) }
         ensures read { OnOk result (self.new.unread ≡ None → self.new.records ≡ self.old.records ++ records_in slots.now) }
     {
@@ -113,7 +113,7 @@ pub fn load_pages<G: Pages>(alloc: Global, pages: &mut G) -> Result<(Heap, Recor
     let mut reader = RecordReader::new(alloc);
     for page in 2..pages.count() {
         let slots = heap.load_page(alloc, pages)?;
-        reader.read(alloc, page, slots.as_slice())?;
+        reader.read(alloc, page, &slots)?;
     }
     let records = reader.finish()?;
     Ok((heap, records))

@@ -1,33 +1,35 @@
-use Rattle.std.proofs.Common.{◌∙◌, ap, subst, sym, arith, rules, ◌++◌, ◌-◌, ◌≤◌, length}
-use Rattle.std.specs.List.{flat_map, AllByRecursion}
+use Rattle.std.proofs.Common.{◌∙◌, ap, ◌++◌, ◌-◌, ◌≤◌, length, arith, rules}
 use Rattle.std.proofs.lemmas.List.{take-replicate}
-use Rattle.wm_heap.specs.Slots.{slot}
-use Rattle.wm_heap.proofs.Pages.{count_fits, filled_fits, is_page, length-page_of, slots_of-page_of}
-use Rattle.wm_heap.proofs.Sizes.{can_spell}
+use Rattle.wm_heap.proofs.Pages.{bytes_counted, count_fits, filled_fits, is_page, length-page_of, slots_of-page_of}
 use Rattle.wm_heap.proofs.writing.write_slots.Goals as goal
 
-pub overflow_cast-len : goal.overflow_cast-len
-overflow_cast-len c =
+pub overflow_cast-count : goal.overflow_cast-count
+overflow_cast-count c =
     let small = count_fits c.args.slots.now c.requires in
-    let len = c.len.ensures in
+    let len = c.len-count.ensures in
     search rules
-
-pub put_each_slot-requires : goal.put_each_slot-requires
-put_each_slot-requires c = subst (AllByRecursion slot.CanSpell) (sym c.as_slice.ensures) (can_spell c.args.slots.now c.requires)
 
 pub slice_bounds-zeros-count : goal.slice_bounds-zeros-count
 slice_bounds-zeros-count c =
-    let fits = filled_fits c.args.slots.now _ c.put_u16.new.into c.put_each_slot.new.into c.len.result
-    (c.from_vec-page.ensures ∙ c.in_ok-room.ensures.items) c.in_ok-put_u16.ensures.is c.len.ensures (c.in_ok-put_each_slot.ensures.is ∙ ap (λ slots. c.put_u16.new.into ++ flat_map slot.spell slots) c.as_slice.ensures) c.requires in
+    let start = c.in_ok-page.page.items in
+    let counted = c.extend_from_slice.new.self.items in
+    let fits = filled_fits c.args.slots.now start counted c.extend_from_slice-2.new.self.items c.len-count.result c.in_ok-page.ensures.items
+    (c.in_ok-extend_from_slice.ensures.items ∙ ap (λ bytes. start ++ bytes) c.to_be_bytes.ensures) c.len-count.ensures
+    (c.in_ok-extend_from_slice-2.ensures.items ∙ ap (λ bytes. counted ++ bytes) c.as_bytes.ensures.is) c.requires in
+    let size = bytes_counted c.extend_from_slice-2.new.self c.len.result c.len.ensures in
     omega arith
 
 pub returns : goal.returns
 returns c =
-    let page_is = is_page c.args.slots.now _ c.put_u16.new.into c.put_each_slot.new.into c.append.new.self _ c.len.result c.len-2.result
-    (c.from_vec-page.ensures ∙ c.in_ok-room.ensures.items) c.in_ok-put_u16.ensures.is c.len.ensures (c.in_ok-put_each_slot.ensures.is ∙ ap (λ slots. c.put_u16.new.into ++ flat_map slot.spell slots) c.as_slice.ensures)
-    c.len-2.ensures.value (let room : 4096 - c.len-2.result ≤ 4096 = omega arith in take-replicate (4096 - c.len-2.result) 4096 0 room) c.in_ok-append.ensures.ok in
+    let start = c.in_ok-page.page.items in
+    let counted = c.extend_from_slice.new.self.items in
+    let page_is = c.from_vec.ensures
+    ∙ is_page c.args.slots.now start counted c.extend_from_slice-2.new.self.items c.extend_from_slice-3.new.self.items _ c.len-count.result c.len.result c.in_ok-page.ensures.items
+    (c.in_ok-extend_from_slice.ensures.items ∙ ap (λ bytes. start ++ bytes) c.to_be_bytes.ensures) c.len-count.ensures
+    (c.in_ok-extend_from_slice-2.ensures.items ∙ ap (λ bytes. counted ++ bytes) c.as_bytes.ensures.is) (bytes_counted c.extend_from_slice-2.new.self c.len.result c.len.ensures)
+    (let room : 4096 - c.len.result ≤ 4096 = omega arith in take-replicate (4096 - c.len.result) 4096 0 room) c.in_ok-extend_from_slice-3.ensures.items in
     record {
       page = page_is;
       size = ap length page_is ∙ length-page_of c.args.slots.now c.requires;
-      again = slots_of-page_of c.args.slots.now (count_fits c.args.slots.now c.requires) (subst (AllByRecursion slot.Fits) c.as_slice.ensures c.in_ok-put_each_slot.ensures.fits);
+      again = slots_of-page_of c.args.slots.now (count_fits c.args.slots.now c.requires) c.as_bytes.ensures.fits;
     }

@@ -62,8 +62,8 @@ loop-page-preserved g c =
           subst (λ n. fault_of (g.G.Pages.held c.args.pages.now) (page_count c.load_page.new.self) n ≡ None) inv.in_file
           (subst (λ held. fault_of held (page_count c.load_page.new.self) (g.G.Pages.in_file c.loop-page.pages) ≡ None) (inv.told t) (did.undamaged t));
       read = λ t.
-          let is : c.as_slice.result.now ≡ slots_in (g.G.Pages.held c.args.pages.now) c.loop-page.page =
-          c.as_slice.ensures ∙ did.slots t ∙ ap (λ held. slots_in held (page_count c.loop-page.heap)) (inv.told t) ∙ ap (slots_in (g.G.Pages.held c.args.pages.now)) inv.count in
+          let is : c.in_ok-slots.slots ≡ slots_in (g.G.Pages.held c.args.pages.now) c.loop-page.page =
+          did.slots t ∙ ap (λ held. slots_in held (page_count c.loop-page.heap)) (inv.told t) ∙ ap (slots_in (g.G.Pages.held c.args.pages.now)) inv.count in
           read_more (g.G.Pages.held c.args.pages.now) c.loop-page.page c.loop-page.reader.records c.read.new.self.records c.loop-page.reader.unread c.read.new.self.unread low (inv.read t)
           (subst (λ slots. c.read.new.self.unread ≡ option_or c.loop-page.reader.unread (cond (are_records slots) None (Some c.loop-page.page))) is c.in_ok-read.ensures.unread)
           (subst (λ slots. c.read.new.self.unread ≡ None → c.read.new.self.records ≡ c.loop-page.reader.records ++ records_in slots) is c.in_ok-read.ensures.read);

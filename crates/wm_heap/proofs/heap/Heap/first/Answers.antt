@@ -13,8 +13,8 @@ returns-clause-heap c = λ held page_is.
     first_heap (record { ids = c.push.new.self; places = c.place_each.new.places; room = c.keep.new.self }) held (slots_put c.args.batch.now)
     (ap (λ l. slots_of (page_of l)) (sym slots) ∙ pages.again ∙ ap (λ l. Some l) slots)
     (once_put c.args.batch.now c.requires.once)
-    (c.in_ok-push.ensures.items ∙ ap (λ l. l ++ c.in_ok-ids_of_slots.field-0 ∷ []) c.new-ids.ensures.items ∙ ap (λ (l : List ℕ). l ∷ []) (c.in_ok-ids_of_slots.ensures ∙ ap ids_of (c.as_slice-3.ensures ∙ slots)))
-    (λ id. c.in_ok-place_each.ensures id ∙ ap (λ l. cond (is_some (bytes_at l id)) (Some 2) (at c.new-places.result.entries id)) (c.as_slice-2.ensures ∙ slots) ∙ ap (λ es. cond (is_some (bytes_at (slots_put c.args.batch.now) id)) (Some 2) (at es id)) c.new-places.ensures.empty)
+    (c.in_ok-push.ensures.items ∙ ap (λ l. l ++ c.in_ok-ids_of_slots.field-0 ∷ []) c.new-ids.ensures.items ∙ ap (λ (l : List ℕ). l ∷ []) (c.in_ok-ids_of_slots.ensures ∙ ap ids_of slots))
+    (λ id. c.in_ok-place_each.ensures id ∙ ap (λ l. cond (is_some (bytes_at l id)) (Some 2) (at c.new-places.result.entries id)) slots ∙ ap (λ es. cond (is_some (bytes_at (slots_put c.args.batch.now) id)) (Some 2) (at es id)) c.new-places.ensures.empty)
     page_is
 
 pub returns-clause-sound : goal.returns-clause-sound

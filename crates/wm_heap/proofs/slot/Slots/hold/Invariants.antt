@@ -1,6 +1,6 @@
-use Rattle.std.proofs.Common.{◌≡◌, drop}
+use Rattle.std.proofs.Common.{◌≡◌}
 use Rattle.wm_heap.specs.Content.{bytes_at}
 use Rattle.wm_heap.proofs.slot.Slots.hold.Given as goal
 
 abbrev pub invariant-loop-slot : goal.invariant-loop-slot
-invariant-loop-slot l = bytes_at l.self l.blob.id ≡ bytes_at (drop l.slot-index l.self) l.blob.id
+invariant-loop-slot l = bytes_at l.self l.blob.id ≡ bytes_at l.slot-iterator l.blob.id

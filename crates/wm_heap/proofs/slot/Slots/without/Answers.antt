@@ -1,9 +1,10 @@
-use Rattle.std.proofs.Common.{not, eqb, filter, rules, ap, ◌∙◌}
-use Rattle.std.proofs.lemmas.Fn.{filter_same}
+use Rattle.std.proofs.Common.{not, eqb, filter, ap, ◌∙◌}
 use Rattle.wm_heap.specs.declared.slot.Slot.{Slot}
+use Rattle.wm_heap.proofs.Packed.{packed_again, slots_at-packed}
 use Rattle.wm_heap.proofs.slot.Slots.without.Goals as goal
 
+pub invariant_of-slots : goal.invariant_of-slots
+invariant_of-slots c = packed_again _ _ _ c.drop_slots.ensures
+
 pub returns : goal.returns
-returns c =
-    filter_same _ (λ (s : Slot). not (eqb s.id c.args.id)) _ (λ x b f' k. search rules) _ _ c.retain.ensures.filtered
-    ∙ ap (λ l. filter (λ (s : Slot). not (eqb s.id c.args.id)) l) c.slots.view_is
+returns c = slots_at-packed _ _ _ c.drop_slots.ensures ∙ ap (λ l. filter (λ (s : Slot). not (eqb s.id c.args.id)) l) c.slots.view_is
