@@ -24,9 +24,11 @@ pub(crate) fn count_after(count: u64, pages: &[PageWrite]) -> u64
 pub(crate) fn journal_bytes(alloc: Global, pages: &[PageWrite]) -> Result<Vec<u8>, AllocError>
     ensures { IfOk result (λ bytes. bytes.items ≡ journal_bytes (entries pages.now)) }
 {
-    let mut bytes = Vec::new(alloc);
+    let numbers = pages.len().div_ceil(512);
+    let room = pages.len().saturating_add(numbers);
+    let mut bytes = Vec::with_capacity(alloc, room.saturating_mul(PAGE_SIZE))?;
     put_numbers(&mut bytes, pages)?;
-    put_zeros(&mut bytes, pages.len().div_ceil(512) * PAGE_SIZE)?;
+    put_zeros(&mut bytes, numbers * PAGE_SIZE)?;
     put_images(&mut bytes, pages)?;
     Ok(bytes)
 }

@@ -9,6 +9,9 @@ use wm_codec::encode;
 use wm_heap::{Blob, Blobs};
 use wm_spec::record::Change;
 
+/// How many bytes most records take at most.
+const USUAL_BYTES: usize = 96;
+
 /// A change, with its record in bytes.
 fn spell_change(alloc: Global, change: &Change) -> Result<Blob, Memory>
     requires { IfSome change.now.becomes (λ r. CanSpell r × (length (spelling r) ≤ 4084)) }
@@ -19,7 +22,7 @@ fn spell_change(alloc: Global, change: &Change) -> Result<Blob, Memory>
     let Some(record) = &change.becomes else {
         return Ok(Blob { id, bytes: None });
     };
-    let mut bytes = Bytes::new(alloc);
+    let mut bytes = Bytes::from_vec(Vec::with_capacity(alloc, USUAL_BYTES)?);
     encode(alloc, record, &mut bytes)?;
     Ok(Blob {
         id,

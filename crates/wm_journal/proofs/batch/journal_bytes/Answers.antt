@@ -28,9 +28,9 @@ numbers_size es n size numbers count are long =
 pub put_zeros-requires : goal.put_zeros-requires
 put_zeros-requires c =
     let pages : List PageWrite = c.args.pages.now in
-    let pages_taken : c.div_ceil.result ≡ directory_pages (length pages) = omega (arith, c.div_ceil.ensures) in
+    let pages_taken : c.div_ceil-numbers.result ≡ directory_pages (length pages) = omega (arith, c.div_ceil-numbers.ensures) in
     let numbers : List ℕ = c.put_numbers.new.bytes.items in
-    let sizes = numbers_size (entries pages) (length pages) c.put_numbers.new.bytes.len numbers (sym (length-entries pages)) (c.in_ok-put_numbers.ensures ∙ ap (λ (l : List ℕ). l ++ numbers_of (entries pages)) c.new-bytes.ensures.items) c.put_numbers.new.bytes.ok.0 in
+    let sizes = numbers_size (entries pages) (length pages) c.put_numbers.new.bytes.len numbers (sym (length-entries pages)) (c.in_ok-put_numbers.ensures ∙ ap (λ (l : List ℕ). l ++ numbers_of (entries pages)) c.in_ok-bytes.ensures.items) c.put_numbers.new.bytes.ok.0 in
     record {
       short = subst (λ (k : ℕ). c.put_numbers.new.bytes.len ≤ k * 4096) (sym pages_taken) sizes.0;
       near = subst (λ (k : ℕ). k * 4096 ≤ c.put_numbers.new.bytes.len + 4096) (sym pages_taken) sizes.1;
@@ -42,8 +42,8 @@ returns c =
     let n = length pages in
     let size = c.put_numbers.new.bytes.len in
     let count : n ≡ length (entries pages) = sym (length-entries pages) in
-    let numbers : c.put_numbers.new.bytes.items ≡ [] ++ numbers_of (entries pages) = c.in_ok-put_numbers.ensures ∙ ap (λ (l : List ℕ). l ++ numbers_of (entries pages)) c.new-bytes.ensures.items in
-    let pages_taken : c.div_ceil.result ≡ directory_pages n = omega (arith, c.div_ceil.ensures) in
+    let numbers : c.put_numbers.new.bytes.items ≡ [] ++ numbers_of (entries pages) = c.in_ok-put_numbers.ensures ∙ ap (λ (l : List ℕ). l ++ numbers_of (entries pages)) c.in_ok-bytes.ensures.items in
+    let pages_taken : c.div_ceil-numbers.result ≡ directory_pages n = omega (arith, c.div_ceil-numbers.ensures) in
     let numbers_items : List ℕ = c.put_numbers.new.bytes.items in
     let long : size ≡ length numbers_items = c.put_numbers.new.bytes.ok.0 in
     let filled : c.put_zeros.new.bytes.items ≡ numbers_items ++ replicate (directory_pages n * 4096 - size) 0 =
