@@ -1,4 +1,4 @@
-use Rattle.std.proofs.Common.{◌-◌, not, eqb, length, vec_len}
+use Rattle.std.proofs.Common.{◌-◌, not, eqb, vec_len}
 use Rattle.wm_heap.specs.declared.slot.Slot.{Slot}
 use Rattle.wm_heap.specs.Slots.{slots_at}
 use Rattle.wm_heap.proofs.Packed.{Dropping}
