@@ -13,7 +13,7 @@ use wm_base::tree::operand::Operand;
 use wm_base::{Column, Instant, Memory, Period, Value};
 
 /// A copy of the value, or of the end of a period that the suffix names. What is not there is NULL.
-fn copy_at_end(
+pub fn copy_at_end(
     alloc: Global,
     suffix: Option<Suffix>,
     value: Option<&Value>,

@@ -145,10 +145,10 @@ abbrev held_under : List Stored → ℕ → List Versioned → ℕ → Option He
 held_under ss t es v = first_held (kind_at as_piece ss (ids_under es v)) v t
 
 under_away : (e : Versioned) (es : List Versioned) (v : ℕ) → v ≢ e.version → ids_under (e ∷ es) v ≡ ids_under es v
-under_away e es v other = ap (λ b. cond b e.ids.items (ids_under es v)) (ne_eqb e.version v (λ same. other (sym same)))
+under_away e es v other = ap (λ b. cond b e.ids (ids_under es v)) (ne_eqb e.version v (λ same. other (sym same)))
 
-under_here : (e : Versioned) (es : List Versioned) → ids_under (e ∷ es) e.version ≡ e.ids.items
-under_here e es = ap (λ b. cond b e.ids.items (ids_under es e.version)) (eq-eqb e.version e.version refl)
+under_here : (e : Versioned) (es : List Versioned) → ids_under (e ∷ es) e.version ≡ e.ids
+under_here e es = ap (λ b. cond b e.ids (ids_under es e.version)) (eq-eqb e.version e.version refl)
 
 newest_topmost : (ss : List Stored) (path : List ℕ) (t b : ℕ) (es : List Versioned) → VersionsFrom b es → Topmost (said_on (held_under ss t es) path) (newest_held ss path es t)
 newest_topmost ss path t b [] up = λ v. said_none (list_any (nat_eq v) path) None refl
@@ -221,7 +221,7 @@ up_to_held ss p kept top (e ∷ es) t = by_test (nat_le e.version top) refl (up_
         rest
         ∙ or_none (newest_held ss path es t)
         ∙ ap (option_or (newest_held ss path es t))
-        (sym (ap (λ b. cond b (first_held (kind_at as_piece ss e.ids.items) e.version t) None) (not_on_path (newest_first p.versions) top e.version (ruled p kept).tree (leb-false e.version top high))))
+        (sym (ap (λ b. cond b (first_held (kind_at as_piece ss e.ids) e.version t) None) (not_on_path (newest_first p.versions) top e.version (ruled p kept).tree (leb-false e.version top high))))
 
 -- ---- entry by entry
 
@@ -261,10 +261,10 @@ within : (from till t : ℕ) → (nat_le from t && nat_lt t till) ≡ true → (
 within from till t in_it = (grind (arith, in_it), grind (arith, in_it))
 
 -- nor do entries beside a period that holds theirs
-beside_entry : (ss : List Stored) (path : List ℕ) (w : Versioned) (t : ℕ) (e : Versioned) → (nat_le w.from t && nat_lt t w.till) ≡ false → Encloses w e → AllByRecursion (IsSpanned ss e.from e.till) e.ids.items
+beside_entry : (ss : List Stored) (path : List ℕ) (w : Versioned) (t : ℕ) (e : Versioned) → (nat_le w.from t && nat_lt t w.till) ≡ false → Encloses w e → AllByRecursion (IsSpanned ss e.from e.till) e.ids
     → entry_held ss path e t ≡ None
 beside_entry ss path w t e out inside spanned =
-    said_none (list_any (nat_eq e.version) path) (first_held (kind_at as_piece ss e.ids.items) e.version t) (beside ss e.from e.till e.version t (out_of w.from w.till e.from e.till t inside out) e.ids.items spanned)
+    said_none (list_any (nat_eq e.version) path) (first_held (kind_at as_piece ss e.ids) e.version t) (beside ss e.from e.till e.version t (out_of w.from w.till e.from e.till t inside out) e.ids spanned)
 
 beside_all : (ss : List Stored) (path : List ℕ) (w : Versioned) (t : ℕ) (es : List Versioned) → (nat_le w.from t && nat_lt t w.till) ≡ false → AllByRecursion (Encloses w) es → AreSpanned ss es → newest_held ss path es t ≡ None
 beside_all ss path w t [] out inside spanned = refl
@@ -288,7 +288,7 @@ passed_over ss path es rest e t o all is wide spanned covered so = by_place (nat
     inside : AllByRecursion (Encloses e) rest
     inside = (last_widest rest e (subst Widens is wide)).0
 
-    spans : AreSpanned ss rest × AllByRecursion (IsSpanned ss e.from e.till) e.ids.items
+    spans : AreSpanned ss rest × AllByRecursion (IsSpanned ss e.from e.till) e.ids
     spans = last_spanned ss rest e (subst (AreSpanned ss) is spanned)
 
     own : Encloses e e
@@ -306,11 +306,11 @@ passed_over ss path es rest e t o all is wide spanned covered so = by_place (nat
 
 -- what stands on no path is not laid
 pub not_on : (ss : List Stored) (path : List ℕ) (e : Versioned) (t : ℕ) (o : Option Held) → list_any (nat_eq e.version) path ≡ false → o ≡ option_or o (entry_held ss path e t)
-not_on ss path e t o out = or_none o ∙ ap (option_or o) (sym (ap (λ b. cond b (first_held (kind_at as_piece ss e.ids.items) e.version t) None) out))
+not_on ss path e t o out = or_none o ∙ ap (option_or o) (sym (ap (λ b. cond b (first_held (kind_at as_piece ss e.ids) e.version t) None) out))
 
 -- what stands on it is
-pub is_on : (ss : List Stored) (path : List ℕ) (e : Versioned) (t : ℕ) → list_any (nat_eq e.version) path ≡ true → first_held (kind_at as_piece ss e.ids.items) e.version t ≡ entry_held ss path e t
-is_on ss path e t on = sym (ap (λ b. cond b (first_held (kind_at as_piece ss e.ids.items) e.version t) None) on)
+pub is_on : (ss : List Stored) (path : List ℕ) (e : Versioned) (t : ℕ) → list_any (nat_eq e.version) path ≡ true → first_held (kind_at as_piece ss e.ids) e.version t ≡ entry_held ss path e t
+is_on ss path e t on = sym (ap (λ b. cond b (first_held (kind_at as_piece ss e.ids) e.version t) None) on)
 
 -- ---- how far pieces reach
 

@@ -38,4 +38,4 @@ onward vs old new top es rest e is up down same =
 -- an entry holds the same on paths on which its version stands alike
 pub held_alike : (ss : List Stored) (at top : ℕ) (e : Versioned) (t : ℕ) → is_on (parts_of ss).versions e.version at ≡ is_on (parts_of ss).versions e.version top
     → entry_held ss (path_in (newest_first (parts_of ss).versions) at) e t ≡ entry_held ss (path_in (newest_first (parts_of ss).versions) top) e t
-held_alike ss at top e t same = ap (λ b. cond b (first_held (kind_at as_piece ss e.ids.items) e.version t) None) same
+held_alike ss at top e t same = ap (λ b. cond b (first_held (kind_at as_piece ss e.ids) e.version t) None) same

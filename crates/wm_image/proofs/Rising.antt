@@ -32,7 +32,7 @@ last_widest (x ∷ xs) e wide =
     ((first.1, rest.0), (first.0, rest.1))
 
 -- the cells of its pieces lie in its own, and so it is with those before
-pub last_spanned : (ss : List Stored) (xs : List Versioned) (e : Versioned) → AreSpanned ss (xs ++ e ∷ []) → AreSpanned ss xs × AllByRecursion (IsSpanned ss e.from e.till) e.ids.items
+pub last_spanned : (ss : List Stored) (xs : List Versioned) (e : Versioned) → AreSpanned ss (xs ++ e ∷ []) → AreSpanned ss xs × AllByRecursion (IsSpanned ss e.from e.till) e.ids
 last_spanned ss [] e all = (tt, all.0)
 last_spanned ss (x ∷ xs) e all = let rest = last_spanned ss xs e all.1 in ((all.0, rest.0), rest.1)
 

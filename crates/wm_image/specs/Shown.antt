@@ -40,7 +40,7 @@ along f (v ∷ vs) = option_or (f v) (along f vs)
 
 -- what an entry of versions with ids of pieces has at a moment, where its version stands on a path
 abbrev pub entry_held : List Stored → List ℕ → Versioned → ℕ → Option Held
-entry_held ss path e time = if list_any (nat_eq e.version) path then first_held (kind_at as_piece ss e.ids.items) e.version time else None
+entry_held ss path e time = if list_any (nat_eq e.version) path then first_held (kind_at as_piece ss e.ids) e.version time else None
 
 -- versions have for a key of a table what is stored for it
 abbrev pub HoldKey : List Stored → ℕ → List Value → List Versioned → Type 0

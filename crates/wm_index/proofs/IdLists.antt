@@ -87,3 +87,7 @@ found_searched id xs r sorted found =
     by_place : (i k : ℕ) → (k < i) ⊎ (i ≤ k) → ((k : ℕ) → k < i → get_or xs k 0 < id) → ((k : ℕ) → i ≤ k → k < length xs → id < get_or xs k 0) → k < length xs → get_or xs k 0 ≡ id → ⊥
     by_place i k (inl less) below above within e = let lt = below k less in omega (arith, lt, e)
     by_place i k (inr more) below above within e = let lt = above k more within in omega (arith, lt, e)
+
+pub one_ascends : (id : ℕ) → IsStrictlySortedBy nat_cmp (id ∷ [])
+unfolding IsStrictlySortedBy
+one_ascends id = (tt, tt)

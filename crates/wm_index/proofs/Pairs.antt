@@ -5,8 +5,6 @@ use Rattle.std.specs.BTreeMap.{BTreeMap}
 use Rattle.std.specs.BTreeSet.{BTreeSet}
 use Rattle.std.specs.Cmp.{Equal-is, tied_then}
 use Rattle.std.specs.Ordering.{nat_cmp, is_eq}
-use Rattle.std.specs.declared.alloc.Global.{Global}
-use Rattle.std.specs.declared.vec.Vec.{Vec}
 use Rattle.wm_spec.specs.declared.record.Record.TheVariants as records
 use Rattle.wm_spec.specs.declared.record.hist.Hist.{Hist}
 use Rattle.wm_spec.specs.declared.record.trace.Trace.{Trace}
@@ -42,7 +40,7 @@ changed_number change f m n = by_test (is_eq (nat_cmp m n)) refl ∙ ap (λ b. c
     by_test false apart = refl
 
 -- the ids under the keys of a turn are changed
-pub turn_changed : (change : List ℕ → List ℕ) (old : Index) (owned : BTreeMap ℕ (BTreeSet ℕ)) (turns : BTreeMap (ℕ × ℕ) (Vec ℕ Global)) (r : Turn)
+pub turn_changed : (change : List ℕ → List ℕ) (old : Index) (owned : BTreeMap ℕ (BTreeSet ℕ)) (turns : BTreeMap (ℕ × ℕ) (List ℕ)) (r : Turn)
     → ((q : ℕ) → ids_among nat_cmp owned.entries q ≡ cond (is_eq (nat_cmp r.space q)) (change (ids_among nat_cmp old.owned.entries r.space)) (ids_among nat_cmp old.owned.entries q))
     → ((q : ℕ × ℕ) → ids_in pair_order turns.entries q ≡ cond (is_eq (pair_order (r.space, r.rebase) q)) (change (ids_in pair_order old.turns_at.entries (r.space, r.rebase))) (ids_in pair_order old.turns_at.entries q))
     → (q : Sought) → ids_at (record old { owned = owned; turns_at = turns }) q ≡ cond (is_sought q (records.Turn r)) (change (ids_at old q)) (ids_at old q)

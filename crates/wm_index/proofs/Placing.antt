@@ -25,7 +25,7 @@ pub none_from : (b v : ℕ) (es : List Versioned) → VersionsFrom b es → v < 
 none_from b v [] up less = refl
 none_from b v (e ∷ es) up less =
     let first = up.0 in
-    ap (λ c. cond c e.ids.items (ids_under es v)) (ne_eqb e.version v (λ same. absurd (omega (arith, first, less, same)))) ∙ none_from (e.version + 1) v es up.1 (omega (arith, first, less))
+    ap (λ c. cond c e.ids (ids_under es v)) (ne_eqb e.version v (λ same. absurd (omega (arith, first, less, same)))) ∙ none_from (e.version + 1) v es up.1 (omega (arith, first, less))
 
 pub from_at : (b : ℕ) (es : List Versioned) (i : ℕ) (d : Versioned) → VersionsFrom b es → i < length es → b ≤ (get_or es i d).version
 from_at b [] i d up within = absurd (omega (arith, within))
@@ -149,11 +149,11 @@ found_within n (Err i) within = (tt, within)
 
 -- ---- the ids of a version
 
-pub stands_under : (es : List Versioned) (v i : ℕ) (d : Versioned) → StandsAt v es i → ids_under es v ≡ (get_or es i d).ids.items
+pub stands_under : (es : List Versioned) (v i : ℕ) (d : Versioned) → StandsAt v es i → ids_under es v ≡ (get_or es i d).ids
 stands_under [] v i d at = absurd at
-stands_under (e ∷ es) v zero d at = ap (λ c. cond c e.ids.items (ids_under es v)) (eq-eqb e.version v at)
+stands_under (e ∷ es) v zero d at = ap (λ c. cond c e.ids (ids_under es v)) (eq-eqb e.version v at)
 stands_under (e ∷ es) v (suc i) d at =
-    ap (λ c. cond c e.ids.items (ids_under es v)) (ne_eqb e.version v (λ same. absurd (let less = at.0 in omega (arith, less, same)))) ∙ stands_under es v i d at.1
+    ap (λ c. cond c e.ids (ids_under es v)) (ne_eqb e.version v (λ same. absurd (let less = at.0 in omega (arith, less, same)))) ∙ stands_under es v i d at.1
 
 pub stands_version : (es : List Versioned) (v i : ℕ) (d : Versioned) → StandsAt v es i → (get_or es i d).version ≡ v
 stands_version [] v i d at = absurd at
@@ -163,52 +163,52 @@ stands_version (e ∷ es) v (suc i) d at = stands_version es v i d at.1
 pub fits_under : (b : ℕ) (es : List Versioned) (v i : ℕ) → FitsAt v es i → VersionsFrom b es → ids_under es v ≡ []
 fits_under b [] v i at up = refl
 fits_under b (e ∷ es) v zero at up =
-    ap (λ c. cond c e.ids.items (ids_under es v)) (ne_eqb e.version v (λ same. absurd (omega (arith, at, same)))) ∙ none_from (e.version + 1) v es up.1 (omega (arith, at))
+    ap (λ c. cond c e.ids (ids_under es v)) (ne_eqb e.version v (λ same. absurd (omega (arith, at, same)))) ∙ none_from (e.version + 1) v es up.1 (omega (arith, at))
 fits_under b (e ∷ es) v (suc i) at up =
-    ap (λ c. cond c e.ids.items (ids_under es v)) (ne_eqb e.version v (λ same. absurd (let less = at.0 in omega (arith, less, same))))
+    ap (λ c. cond c e.ids (ids_under es v)) (ne_eqb e.version v (λ same. absurd (let less = at.0 in omega (arith, less, same))))
     ∙ fits_under (e.version + 1) es v i at.1 up.1
 
 -- a first version that is another's
 away : (v w : ℕ) (xs ys : List ℕ) (e : Versioned) → e.version < v → (e.version == w) ≡ true → ys ≡ cond (v == w) xs ys
 away v w xs ys e less is = sym (ap (λ c. cond c xs ys) (ne_eqb v w (λ same. absurd (let here = eqb-true e.version w is in omega (arith, less, here, same)))))
 
-pub set_under : (es : List Versioned) (v i : ℕ) (new : Versioned) → StandsAt v es i → new.version ≡ v → (w : ℕ) → ids_under (set es i new) w ≡ cond (v == w) new.ids.items (ids_under es w)
+pub set_under : (es : List Versioned) (v i : ℕ) (new : Versioned) → StandsAt v es i → new.version ≡ v → (w : ℕ) → ids_under (set es i new) w ≡ cond (v == w) new.ids (ids_under es w)
 set_under [] v i new at same w = absurd at
-set_under (e ∷ es) v zero new at same w = ap (λ n. cond (n == w) new.ids.items (ids_under es w)) same ∙ by_test (v == w) refl
+set_under (e ∷ es) v zero new at same w = ap (λ n. cond (n == w) new.ids (ids_under es w)) same ∙ by_test (v == w) refl
   where
-    by_test : (b : Bool) → (v == w) ≡ b → cond b new.ids.items (ids_under es w) ≡ cond b new.ids.items (cond (e.version == w) e.ids.items (ids_under es w))
+    by_test : (b : Bool) → (v == w) ≡ b → cond b new.ids (ids_under es w) ≡ cond b new.ids (cond (e.version == w) e.ids (ids_under es w))
     by_test true is = refl
-    by_test false is = sym (ap (λ n. cond (n == w) e.ids.items (ids_under es w)) at ∙ ap (λ c. cond c e.ids.items (ids_under es w)) is)
+    by_test false is = sym (ap (λ n. cond (n == w) e.ids (ids_under es w)) at ∙ ap (λ c. cond c e.ids (ids_under es w)) is)
 set_under (e ∷ es) v (suc i) new at same w = by_test (e.version == w) refl (set_under es v i new at.1 same w)
   where
-    by_test : (b : Bool) → (e.version == w) ≡ b → ids_under (set es i new) w ≡ cond (v == w) new.ids.items (ids_under es w)
-        → cond b e.ids.items (ids_under (set es i new) w) ≡ cond (v == w) new.ids.items (cond b e.ids.items (ids_under es w))
-    by_test true is rest = away v w new.ids.items e.ids.items e at.0 is
+    by_test : (b : Bool) → (e.version == w) ≡ b → ids_under (set es i new) w ≡ cond (v == w) new.ids (ids_under es w)
+        → cond b e.ids (ids_under (set es i new) w) ≡ cond (v == w) new.ids (cond b e.ids (ids_under es w))
+    by_test true is rest = away v w new.ids e.ids e at.0 is
     by_test false is rest = rest
 
-pub insert_under : (es : List Versioned) (v i : ℕ) (new : Versioned) → FitsAt v es i → new.version ≡ v → (w : ℕ) → ids_under (insert es i new) w ≡ cond (v == w) new.ids.items (ids_under es w)
-insert_under [] v zero new at same w = ap (λ n. cond (n == w) new.ids.items []) same
+pub insert_under : (es : List Versioned) (v i : ℕ) (new : Versioned) → FitsAt v es i → new.version ≡ v → (w : ℕ) → ids_under (insert es i new) w ≡ cond (v == w) new.ids (ids_under es w)
+insert_under [] v zero new at same w = ap (λ n. cond (n == w) new.ids []) same
 insert_under [] v (suc i) new at same w = absurd at
-insert_under (e ∷ es) v zero new at same w = ap (λ n. cond (n == w) new.ids.items (ids_under (e ∷ es) w)) same
+insert_under (e ∷ es) v zero new at same w = ap (λ n. cond (n == w) new.ids (ids_under (e ∷ es) w)) same
 insert_under (e ∷ es) v (suc i) new at same w = by_test (e.version == w) refl (insert_under es v i new at.1 same w)
   where
-    by_test : (b : Bool) → (e.version == w) ≡ b → ids_under (insert es i new) w ≡ cond (v == w) new.ids.items (ids_under es w)
-        → cond b e.ids.items (ids_under (insert es i new) w) ≡ cond (v == w) new.ids.items (cond b e.ids.items (ids_under es w))
-    by_test true is rest = away v w new.ids.items e.ids.items e at.0 is
+    by_test : (b : Bool) → (e.version == w) ≡ b → ids_under (insert es i new) w ≡ cond (v == w) new.ids (ids_under es w)
+        → cond b e.ids (ids_under (insert es i new) w) ≡ cond (v == w) new.ids (cond b e.ids (ids_under es w))
+    by_test true is rest = away v w new.ids e.ids e at.0 is
     by_test false is rest = rest
 
 pub remove_under : (b : ℕ) (es : List Versioned) (v i : ℕ) → StandsAt v es i → VersionsFrom b es → (w : ℕ) → ids_under (remove es i) w ≡ cond (v == w) [] (ids_under es w)
 remove_under b [] v i at up w = absurd at
 remove_under b (e ∷ es) v zero at up w = by_test (v == w) refl
   where
-    by_test : (b : Bool) → (v == w) ≡ b → ids_under es w ≡ cond b [] (cond (e.version == w) e.ids.items (ids_under es w))
+    by_test : (b : Bool) → (v == w) ≡ b → ids_under es w ≡ cond b [] (cond (e.version == w) e.ids (ids_under es w))
     by_test true is = none_from (e.version + 1) w es up.1 (let same = eqb-true v w is in omega (arith, at, same))
-    by_test false is = sym (ap (λ n. cond (n == w) e.ids.items (ids_under es w)) at ∙ ap (λ c. cond c e.ids.items (ids_under es w)) is)
+    by_test false is = sym (ap (λ n. cond (n == w) e.ids (ids_under es w)) at ∙ ap (λ c. cond c e.ids (ids_under es w)) is)
 remove_under b (e ∷ es) v (suc i) at up w = by_test (e.version == w) refl (remove_under (e.version + 1) es v i at.1 up.1 w)
   where
     by_test : (b : Bool) → (e.version == w) ≡ b → ids_under (remove es i) w ≡ cond (v == w) [] (ids_under es w)
-        → cond b e.ids.items (ids_under (remove es i) w) ≡ cond (v == w) [] (cond b e.ids.items (ids_under es w))
-    by_test true is rest = away v w [] e.ids.items e at.0 is
+        → cond b e.ids (ids_under (remove es i) w) ≡ cond (v == w) [] (cond b e.ids (ids_under es w))
+    by_test true is rest = away v w [] e.ids e at.0 is
     by_test false is rest = rest
 
 -- ---- they rise as before
@@ -253,13 +253,13 @@ All-without P id (x ∷ xs) all = by_test (x == id) (All-without P id xs all.1)
     by_test false rest = (all.0, rest)
 
 pub set_spanned : (ss : List Stored) (es : List Versioned) (i : ℕ) (d new : Versioned) → i < length es
-    → (AllByRecursion (IsSpanned ss (get_or es i d).from (get_or es i d).till) (get_or es i d).ids.items → AllByRecursion (IsSpanned ss new.from new.till) new.ids.items)
+    → (AllByRecursion (IsSpanned ss (get_or es i d).from (get_or es i d).till) (get_or es i d).ids → AllByRecursion (IsSpanned ss new.from new.till) new.ids)
     → AreSpanned ss es → AreSpanned ss (set es i new)
 set_spanned ss [] i d new within grows all = absurd (omega (arith, within))
 set_spanned ss (e ∷ es) zero d new within grows all = (grows all.0, all.1)
 set_spanned ss (e ∷ es) (suc i) d new within grows all = (all.0, set_spanned ss es i d new (omega (arith, within)) grows all.1)
 
-pub insert_spanned : (ss : List Stored) (es : List Versioned) (v i : ℕ) (new : Versioned) → FitsAt v es i → AllByRecursion (IsSpanned ss new.from new.till) new.ids.items → AreSpanned ss es → AreSpanned ss (insert es i new)
+pub insert_spanned : (ss : List Stored) (es : List Versioned) (v i : ℕ) (new : Versioned) → FitsAt v es i → AllByRecursion (IsSpanned ss new.from new.till) new.ids → AreSpanned ss es → AreSpanned ss (insert es i new)
 insert_spanned ss [] v zero new at spans all = (spans, tt)
 insert_spanned ss [] v (suc i) new at spans all = absurd at
 insert_spanned ss (e ∷ es) v zero new at spans all = (spans, all)

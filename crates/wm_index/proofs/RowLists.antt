@@ -2,11 +2,8 @@
 use Rattle.std.proofs.Common.{◌≡◌, ◌≢◌, ℕ, ◌==◌, true, false, cond, List, [], ◌∷◌, Option, Some, None, refl, sym, ap, ◌∙◌, ◌⊎◌, inl, inr}
 use Rattle.std.proofs.lemmas.Bool.{cases_eq, eq-eqb, ne_eqb}
 use Rattle.std.specs.BTreeMap.{is_at}
-use Rattle.std.specs.List.Sorted.{IsStrictlySortedBy}
 use Rattle.std.specs.Map.{lookup}
 use Rattle.std.specs.Ordering.{nat_cmp}
-use Rattle.std.specs.declared.alloc.Global.{Global}
-use Rattle.std.specs.declared.vec.Vec.{Vec}
 use Rattle.wm_chunks.specs.Numbers.{Sets, value_at}
 use Rattle.wm_index.proofs.TableLists.{is_at-number}
 use Rattle.wm_index.specs.Rows.{one_or, row_ids}
@@ -38,7 +35,7 @@ set_away : {V : Type 0} (stamp : ℕ) (o : Option V) (f g : ℕ → Option V) �
 set_away stamp o f g sets q apart = sets q ∙ ap (λ b. cond b o (f q)) (at_away stamp q apart)
 
 -- what one stamp has is written
-both_told : (change : List ℕ → List ℕ) (stamp : ℕ) (old new : RowIds) (o : Option ℕ) (v : Option (Vec ℕ Global)) → Sets stamp o old.one.entries new.one.entries
+both_told : (change : List ℕ → List ℕ) (stamp : ℕ) (old new : RowIds) (o : Option ℕ) (v : Option (List ℕ)) → Sets stamp o old.one.entries new.one.entries
     → ((q : ℕ) → lookup (is_at (nat_cmp q)) new.several.entries ≡ cond (is_at (nat_cmp stamp) q) v (lookup (is_at (nat_cmp q)) old.several.entries))
     → one_or o (ids_found v) ≡ change (row_ids old stamp) → Changes change stamp old new
 both_told change stamp old new o v one several here =
@@ -51,12 +48,8 @@ both_told change stamp old new o v one several here =
     ∙ ap (λ w. one_or (value_at old.one.entries q) (ids_found w))
     (set_away stamp v (λ k. lookup (is_at (nat_cmp k)) old.several.entries) (λ k. lookup (is_at (nat_cmp k)) new.several.entries) several q apart))
 
-pub one_ascends : (id : ℕ) → IsStrictlySortedBy nat_cmp (id ∷ [])
-unfolding IsStrictlySortedBy
-one_ascends id = (tt, tt)
-
 -- a second id
-pub second_told : (id other stamp : ℕ) (old new : RowIds) (ids : Vec ℕ Global) → value_at old.one.entries stamp ≡ Some other → ids.items ≡ placed id (other ∷ []) → Sets stamp None old.one.entries new.one.entries
+pub second_told : (id other stamp : ℕ) (old new : RowIds) (ids : List ℕ) → value_at old.one.entries stamp ≡ Some other → ids ≡ placed id (other ∷ []) → Sets stamp None old.one.entries new.one.entries
     → ((q : ℕ) → lookup (is_at (nat_cmp q)) new.several.entries ≡ cond (is_at (nat_cmp stamp) q) (Some ids) (lookup (is_at (nat_cmp q)) old.several.entries)) → Changes (placed id) stamp old new
 second_told id other stamp old new ids was items one several =
     both_told (placed id) stamp old new None (Some ids) one several

@@ -9,8 +9,6 @@ use Rattle.std.specs.Map.{lookup}
 use Rattle.std.specs.Option.{option_map, unwrap_or}
 use Rattle.std.specs.Ordering.{nat_cmp, is_eq}
 use Rattle.std.specs.Set.{remove_key}
-use Rattle.std.specs.declared.alloc.Global.{Global}
-use Rattle.std.specs.declared.vec.Vec.{Vec}
 use Rattle.wm_base.specs.Key.{key_order}
 use Rattle.wm_base.specs.Orders.{key_order-equal}
 use Rattle.wm_base.specs.declared.value.Value.{Value}
@@ -47,19 +45,18 @@ same_key : (key k : List Value) (change : List ℕ → List ℕ) (f : List Value
 same_key key k change f true tie = ap (λ j. change (f j)) (key_order-equal key k ((Equal-is (key_order key k)).0 tie))
 same_key key k change f false tie = refl
 
--- the ids of one table taken out, changed under a key, and put back
-pub changed_on : (change : List ℕ → List ℕ) (old mid next : List (ℕ × Keyed)) (table : ℕ) (key : List Value) (was : List (List Value × Vec ℕ Global)) (m : Keyed)
+-- the ids of one table, changed under a key
+pub changed_on : (change : List ℕ → List ℕ) (old next : List (ℕ × Keyed)) (table : ℕ) (key : List Value) (was : List (List Value × List ℕ)) (m : Keyed)
     → keyed_at old table ≡ was
-    → ((n : ℕ) → lookup (is_at (nat_cmp n)) mid ≡ cond (is_at (nat_cmp table) n) None (lookup (is_at (nat_cmp n)) old))
-    → ((n : ℕ) → lookup (is_at (nat_cmp n)) next ≡ cond (is_at (nat_cmp table) n) (Some m) (lookup (is_at (nat_cmp n)) mid))
+    → ((n : ℕ) → lookup (is_at (nat_cmp n)) next ≡ cond (is_at (nat_cmp table) n) (Some m) (lookup (is_at (nat_cmp n)) old))
     → ((q : List Value) → ids_in key_order m.entries q ≡ cond (is_eq (key_order key q)) (change (ids_in key_order was key)) (ids_in key_order was q))
     → (t : ℕ) (k : List Value) → piece_ids next t k ≡ cond (eqb table t && is_eq (key_order key k)) (change (piece_ids old t k)) (piece_ids old t k)
-changed_on change old mid next table key was m is taken put wrote t k = by_number (cases_eq table t)
+changed_on change old next table key was m is put wrote t k = by_number (cases_eq table t)
   where
     by_number : (table ≡ t) ⊎ (table ≡ t → ⊥) → piece_ids next t k ≡ cond (eqb table t && is_eq (key_order key k)) (change (piece_ids old t k)) (piece_ids old t k)
     by_number (inl here) =
         let test : is_at (nat_cmp table) t ≡ true = is_at-number table t ∙ eq-eqb table t here in
-        let there : keyed_at next t ≡ m.entries = ap keys_found (put t ∙ ap (λ b. cond b (Some m) (lookup (is_at (nat_cmp t)) mid)) test) in
+        let there : keyed_at next t ≡ m.entries = ap keys_found (put t ∙ ap (λ b. cond b (Some m) (lookup (is_at (nat_cmp t)) old)) test) in
         let before : was ≡ keyed_at old t = sym is ∙ ap (keyed_at old) here in
         ap (λ es. ids_in key_order es k) there
         ∙ wrote k
@@ -69,8 +66,7 @@ changed_on change old mid next table key was m is taken put wrote t k = by_numbe
     by_number (inr away) =
         let test : is_at (nat_cmp table) t ≡ false = is_at-number table t ∙ ne_eqb table t away in
         ap (λ o. ids_in key_order (keys_found o) k)
-        (put t ∙ ap (λ b. cond b (Some m) (lookup (is_at (nat_cmp t)) mid)) test
-        ∙ taken t ∙ ap (λ b. cond b (let nothing : Option Keyed = None in nothing) (lookup (is_at (nat_cmp t)) old)) test)
+        (put t ∙ ap (λ b. cond b (Some m) (lookup (is_at (nat_cmp t)) old)) test)
         ∙ ap (λ b. cond (b && is_eq (key_order key k)) (change (piece_ids old t k)) (piece_ids old t k)) (sym (ne_eqb table t away))
 
 pub keys_or : (found : Option Keyed) (none : Keyed) → none.entries ≡ [] → keys_found found ≡ (unwrap_or found none).entries

@@ -58,8 +58,8 @@ All-remove P (x ∷ xs) (suc i) within all = (all.0, All-remove P xs i (omega (a
 
 pub widened_under : (x : PieceRecord) (i : ℕ) (es : List Versioned) (v : ℕ) → ids_under (widened_from x i es) v ≡ ids_under es v
 widened_under x i [] v = refl
-widened_under x zero (e ∷ es) v = ap (λ ids. cond (e.version == v) e.ids.items ids) (widened_under x zero es v)
-widened_under x (suc i) (e ∷ es) v = ap (λ ids. cond (e.version == v) e.ids.items ids) (widened_under x i es v)
+widened_under x zero (e ∷ es) v = ap (λ ids. cond (e.version == v) e.ids ids) (widened_under x zero es v)
+widened_under x (suc i) (e ∷ es) v = ap (λ ids. cond (e.version == v) e.ids ids) (widened_under x i es v)
 
 pub widened_rises : (x : PieceRecord) (i b : ℕ) (es : List Versioned) → VersionsFrom b es → VersionsFrom b (widened_from x i es)
 widened_rises x i b [] up = tt
@@ -73,20 +73,20 @@ wider ss x from till ids all =
 
 pub widened_spanned : (ss : List Stored) (x : PieceRecord) (i : ℕ) (es : List Versioned) → AreSpanned ss es → AreSpanned ss (widened_from x i es)
 widened_spanned ss x i [] all = tt
-widened_spanned ss x zero (e ∷ es) all = (wider ss x e.from e.till e.ids.items all.0, widened_spanned ss x zero es all.1)
+widened_spanned ss x zero (e ∷ es) all = (wider ss x e.from e.till e.ids all.0, widened_spanned ss x zero es all.1)
 widened_spanned ss x (suc i) (e ∷ es) all = (all.0, widened_spanned ss x i es all.1)
 
 -- a version that has the id of a piece more holds its cells once it is widened
 pub there_spanned : (ss : List Stored) (id : ℕ) (x : PieceRecord) (es : List Versioned) (i : ℕ) (d new : Versioned) → i < length es → new.from ≡ (get_or es i d).from → new.till ≡ (get_or es i d).till
-    → new.ids.items ≡ placed id (get_or es i d).ids.items → IsPieceAt ss id x → AreSpanned ss es → AreSpanned ss (widened_from x i (set es i new))
+    → new.ids ≡ placed id (get_or es i d).ids → IsPieceAt ss id x → AreSpanned ss es → AreSpanned ss (widened_from x i (set es i new))
 there_spanned ss id x [] i d new within from till put is all = absurd (omega (arith, within))
 there_spanned ss id x (e ∷ es) zero d new within from till put is all = (
-  subst (λ f. AllByRecursion (IsSpanned ss (min f x.cells.from) (max new.till x.cells.till)) new.ids.items) (sym from)
-      (subst (λ t. AllByRecursion (IsSpanned ss (min e.from x.cells.from) (max t x.cells.till)) new.ids.items) (sym till)
+  subst (λ f. AllByRecursion (IsSpanned ss (min f x.cells.from) (max new.till x.cells.till)) new.ids) (sym from)
+      (subst (λ t. AllByRecursion (IsSpanned ss (min e.from x.cells.from) (max t x.cells.till)) new.ids) (sym till)
       (subst (AllByRecursion (IsSpanned ss (min e.from x.cells.from) (max e.till x.cells.till))) (sym put)
-      (All-placed (IsSpanned ss (min e.from x.cells.from) (max e.till x.cells.till)) id e.ids.items
+      (All-placed (IsSpanned ss (min e.from x.cells.from) (max e.till x.cells.till)) id e.ids
       (λ r at. subst (λ (q : PieceRecord). (min e.from x.cells.from ≤ q.cells.from) × (q.cells.till ≤ max e.till x.cells.till)) (sym (is r at)) (min_right e.from x.cells.from, max_right e.till x.cells.till))
-      (wider ss x e.from e.till e.ids.items all.0)))),
+      (wider ss x e.from e.till e.ids all.0)))),
   widened_spanned ss x zero es all.1,
 )
 there_spanned ss id x (e ∷ es) (suc i) d new within from till put is all = (all.0, there_spanned ss id x es i d new (omega (arith, within)) from till put is all.1)

@@ -1,3 +1,4 @@
+pub mod Held
 pub mod Sought
 pub mod Versioned
 pub mod Rows

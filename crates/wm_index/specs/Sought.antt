@@ -7,9 +7,7 @@ use Rattle.std.specs.List.{filter}
 use Rattle.std.specs.Map.{lookup}
 use Rattle.std.specs.Option.{option_or}
 use Rattle.std.specs.Ordering.{nat_cmp, is_eq, ordering_then}
-use Rattle.std.specs.declared.alloc.Global.{Global}
 use Rattle.std.specs.declared.cmp.Ordering.{Ordering}
-use Rattle.std.specs.declared.vec.Vec.{Vec}
 use Rattle.wm_base.specs.Key.{key_order}
 use Rattle.wm_base.specs.declared.value.Value.{Value}
 use Rattle.wm_spec.specs.declared.record.Record.{Record}
@@ -108,11 +106,11 @@ without id [] = []
 without id (x ∷ xs) = if x == id then xs else x ∷ without id xs
 
 -- what a look-up of ids found
-abbrev pub ids_found : Option (Vec ℕ Global) → List ℕ
-ids_found found = unwrap_or (option_map (λ v. v.items) found) []
+abbrev pub ids_found : Option (List ℕ) → List ℕ
+ids_found found = unwrap_or found []
 
 -- the ids under a key
-abbrev pub ids_in : {K : Type 0} → (K → K → Ordering) → List (K × Vec ℕ Global) → K → List ℕ
+abbrev pub ids_in : {K : Type 0} → (K → K → Ordering) → List (K × List ℕ) → K → List ℕ
 ids_in cmp entries key = ids_found (lookup (is_at (cmp key)) entries)
 
 -- the ids of the set that a look-up found
@@ -141,11 +139,11 @@ ids_since places space from = map (λ (e : ℕ × ℕ × ℕ). e.2) (filter (λ 
 
 -- the ids by key of a table
 abbrev pub Keyed : Type 0
-Keyed = BTreeMap (List Value) (Vec ℕ Global)
+Keyed = BTreeMap (List Value) (List ℕ)
 
 -- the ids by number of a workspace
 abbrev pub Numbered : Type 0
-Numbered = BTreeMap ℕ (Vec ℕ Global)
+Numbered = BTreeMap ℕ (List ℕ)
 
 -- what stands under a table or a workspace, by key or number
 abbrev pub keyed_at : {K : Type 0} → {V : Type 0} → List (ℕ × BTreeMap K V) → ℕ → List (K × V)
@@ -185,6 +183,6 @@ is_nil [] = true
 is_nil (x ∷ xs) = false
 
 -- the last key that has ids
-abbrev pub last_used : {K : Type 0} → List (K × Vec ℕ Global) → Option K
+abbrev pub last_used : {K : Type 0} → List (K × List ℕ) → Option K
 last_used [] = None
-last_used (e ∷ es) = option_or (last_used es) (then_some (not (is_nil e.1.items)) e.0)
+last_used (e ∷ es) = option_or (last_used es) (then_some (not (is_nil e.1)) e.0)

@@ -25,7 +25,7 @@ Versions = BTreeMap (List Value) (Vec Versioned Global)
 -- the ids of a version
 abbrev pub ids_under : List Versioned → ℕ → List ℕ
 ids_under [] version = []
-ids_under (e ∷ es) version = if e.version == version then e.ids.items else ids_under es version
+ids_under (e ∷ es) version = if e.version == version then e.ids else ids_under es version
 
 -- the versions rise, from a bound on
 abbrev pub VersionsFrom : ℕ → List Versioned → Type 0
@@ -73,7 +73,7 @@ IsSpanned ss from till id = (r : PieceRecord) → option_and_then as_piece (reco
 -- those of the pieces of each version lie in its period
 abbrev pub AreSpanned : List Stored → List Versioned → Type 0
 AreSpanned ss [] = Unit {0}
-AreSpanned ss (e ∷ es) = AllByRecursion (IsSpanned ss e.from e.till) e.ids.items × AreSpanned ss es
+AreSpanned ss (e ∷ es) = AllByRecursion (IsSpanned ss e.from e.till) e.ids × AreSpanned ss es
 
 -- they do at each key
 abbrev pub AllSpanned : List Stored → List (ℕ × Versions) → Type 0

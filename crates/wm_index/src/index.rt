@@ -217,7 +217,7 @@ impl Index {
     }
 
     /// Drops the id of a record.
-    pub fn drop_record(&mut self, alloc: Global, id: u64, dropped: &Record) -> Result<(), Memory>
+    pub fn drop_record(&mut self, id: u64, dropped: &Record) -> Result<(), Memory>
         requires ascend { IdsAscend self.old }
         requires nested { AllNested self.old.pieces.entries }
         ensures ids { OnOk result (Drops self.old self.new id dropped.now) }
@@ -235,12 +235,15 @@ impl Index {
             Record::Space(space) => self.drop_space(id, space.get()),
             Record::Version(version) => self.drop_version(id, version),
             Record::Savepoint(savepoint) => self.drop_savepoint(id, savepoint.get()),
-            Record::Row(row) => drop_row(&mut self.rows, row.stamp, id),
-            Record::Piece(piece) => self.drop_piece(alloc, id, piece),
-            Record::Touch(touch) => self.drop_touch(alloc, id, touch),
+            Record::Row(row) => {
+                drop_row(&mut self.rows, row.stamp, id);
+                Ok(())
+            }
+            Record::Piece(piece) => self.drop_piece(id, piece),
+            Record::Touch(touch) => self.drop_touch(id, touch),
             Record::Lock(lock) => drop_among(&mut self.owned, lock.get().space, id),
             Record::Hist(hist) => self.drop_hist(id, hist.get()),
-            Record::Mark(mark) => self.drop_mark(alloc, id, mark),
+            Record::Mark(mark) => self.drop_mark(id, mark),
             Record::Turn(turn) => self.drop_turn(id, turn),
         }
     }
@@ -253,12 +256,13 @@ impl Index {
     {
         drop_id(&mut self.all_spaces, id);
         drop_among(&mut self.owned, space.number, id)?;
-        drop_from(&mut self.spaces, space.number, id)?;
+        drop_from(&mut self.spaces, &space.number, id);
         if space.number == 0 {
             return Ok(());
         }
-        drop_from(&mut self.born_as, space.birth_version, id)?;
-        drop_from(&mut self.seen_under, space.base_version, id)
+        drop_from(&mut self.born_as, &space.birth_version, id);
+        drop_from(&mut self.seen_under, &space.base_version, id);
+        Ok(())
     }
 
     /// Drops the id of a version.
@@ -268,9 +272,10 @@ impl Index {
         ensures pieces { OnOk result (self.new.pieces.entries ≡ self.old.pieces.entries) }
     {
         drop_among(&mut self.owned, version.space, id)?;
-        drop_from(&mut self.versions, version.number, id)?;
-        drop_in(&mut self.versions_in, version.space, version.number, id)?;
-        drop_from(&mut self.versions_under, version.parent, id)
+        drop_from(&mut self.versions, &version.number, id);
+        drop_in(&mut self.versions_in, version.space, version.number, id);
+        drop_from(&mut self.versions_under, &version.parent, id);
+        Ok(())
     }
 
     /// Drops the id of a savepoint.
@@ -280,28 +285,30 @@ impl Index {
         ensures pieces { OnOk result (self.new.pieces.entries ≡ self.old.pieces.entries) }
     {
         drop_among(&mut self.owned, savepoint.space, id)?;
-        drop_from(&mut self.savepoints_of, savepoint.space, id)?;
-        drop_from(&mut self.savepoints, savepoint.making, id)?;
-        drop_from(&mut self.kept_as, savepoint.version, id)?;
+        drop_from(&mut self.savepoints_of, &savepoint.space, id);
+        drop_from(&mut self.savepoints, &savepoint.making, id);
+        drop_from(&mut self.kept_as, &savepoint.version, id);
         if savepoint.space == 0 {
             return Ok(());
         }
-        drop_from(&mut self.kept_under, savepoint.base_version, id)
+        drop_from(&mut self.kept_under, &savepoint.base_version, id);
+        Ok(())
     }
 
     /// Drops the id of a piece.
-    fn drop_piece(&mut self, alloc: Global, id: u64, piece: &PieceRecord) -> Result<(), Memory>
+    fn drop_piece(&mut self, id: u64, piece: &PieceRecord) -> Result<(), Memory>
         requires ascend { IdsAscend self.old }
         requires nested { AllNested self.old.pieces.entries }
         ensures ids { OnOk result (Drops self.old self.new id (records.Piece piece.now)) }
         ensures pieces { OnOk result (Loses self.old.pieces.entries self.new.pieces.entries id (records.Piece piece.now)) }
     {
         drop_among(&mut self.pieces_in, piece.version, id)?;
-        drop_piece_id(alloc, &mut self.pieces, id, piece)
+        drop_piece_id(&mut self.pieces, id, piece);
+        Ok(())
     }
 
     /// Drops the id of a touch.
-    fn drop_touch(&mut self, alloc: Global, id: u64, touch: &Trace) -> Result<(), Memory>
+    fn drop_touch(&mut self, id: u64, touch: &Trace) -> Result<(), Memory>
         requires { IdsAscend self.old }
         ensures ids { OnOk result (Drops self.old self.new id (records.Touch touch.now)) }
         ensures pieces { OnOk result (self.new.pieces.entries ≡ self.old.pieces.entries) }
@@ -309,19 +316,21 @@ impl Index {
         drop_among(&mut self.owned, touch.space, id)?;
         drop_at(&mut self.touched_at, touch.space, touch.position, id);
         let cells = &touch.cells;
-        drop_on(alloc, &mut self.touches, cells.table, &cells.key, id)
+        drop_on(&mut self.touches, cells.table, &cells.key, id);
+        Ok(())
     }
 
     /// Drops the id of a mark.
-    fn drop_mark(&mut self, alloc: Global, id: u64, mark: &Trace) -> Result<(), Memory>
+    fn drop_mark(&mut self, id: u64, mark: &Trace) -> Result<(), Memory>
         requires { IdsAscend self.old }
         ensures ids { OnOk result (Drops self.old self.new id (records.Mark mark.now)) }
         ensures pieces { OnOk result (self.new.pieces.entries ≡ self.old.pieces.entries) }
     {
         drop_among(&mut self.owned, mark.space, id)?;
-        drop_from(&mut self.marks_in, mark.space, id)?;
+        drop_from(&mut self.marks_in, &mark.space, id);
         let cells = &mark.cells;
-        drop_on(alloc, &mut self.marks, cells.table, &cells.key, id)
+        drop_on(&mut self.marks, cells.table, &cells.key, id);
+        Ok(())
     }
 
     /// Drops the id of a turn.
@@ -332,7 +341,8 @@ impl Index {
     {
         drop_among(&mut self.owned, turn.space, id)?;
         let number = (turn.space, turn.rebase);
-        drop_from(&mut self.turns_at, number, id)
+        drop_from(&mut self.turns_at, &number, id);
+        Ok(())
     }
 
     /// Drops the id of an entry of a log.

@@ -1,21 +1,21 @@
 //! Ids under keys.
 
-ghost use Rattle.std.specs.Prelude.{◌≡◌, unwrap_or, ℕ, None, ◌==◌, ◌&&◌, List, if◌then◌else◌, IfOk, OnOk};
-ghost use Rattle.std.specs.BTreeMap.{IsOrdered, is_at};
+ghost use Rattle.std.specs.Prelude.{◌≡◌, unwrap_or, ℕ, ◌==◌, ◌&&◌, List, if◌then◌else◌, IfOk, OnOk};
+ghost use Rattle.std.specs.BTreeMap.{IsOrdered};
 ghost use Rattle.std.specs.List.Sorted.{IsStrictlySortedBy};
-ghost use Rattle.std.specs.Map.{keys_of, lookup};
+ghost use Rattle.std.specs.Map.{keys_of};
 ghost use Rattle.std.specs.Option.{option_copied};
 ghost use Rattle.std.specs.Ordering.{is_eq, nat_cmp};
 ghost use Rattle.wm_base.specs.Key.{key_order};
 ghost use Rattle.wm_base.specs.declared.value.Value.{Value};
 ghost use Rattle.wm_index.specs.Sought.{placed, without, ids_at_position, ids_in, ids_since, keyed_at, last_used, number_ids, piece_ids};
 
-use crate::ids::{add_id, drop_id};
+use crate::id_list::IdList;
 use std::alloc::Global;
 use std::collections::{BTreeMap, BTreeSet};
 use wm_base::{Key, Memory};
 
-pub type Ids<K> = BTreeMap<K, Vec<u64>>;
+pub type Ids<K> = BTreeMap<K, IdList>;
 
 pub type TableIds = BTreeMap<u16, Ids<Key>>;
 
@@ -35,44 +35,27 @@ pub fn ids_of<'a, K: Ord>(map: &'a Ids<K>, key: &K) -> &'a [u64]
     }
 }
 
-/// Takes out the ids under a key. Most keys have one id, so a new list has room for one.
-fn taken<K: Ord + Drop>(alloc: Global, map: &mut Ids<K>, key: &K) -> Result<Vec<u64>, Memory>
-    ensures ids { IfOk result (λ ids. ids.items ≡ ids_in K.cmp map.old.entries key.now) }
-    ensures rest { OnOk result ((q : K) → lookup (is_at (K.cmp q)) map.new.entries ≡ (if is_at (K.cmp key.now) q then None else lookup (is_at (K.cmp q)) map.old.entries)) }
-{
-    match map.remove(key) {
-        Some(ids) => Ok(ids),
-        None => {
-            let ids = Vec::with_capacity(alloc, 1)?;
-            Ok(ids)
-        }
-    }
-}
-
 /// Puts an id under a key, where those there ascend.
 pub fn add_to<K: Ord + Drop>(alloc: Global, map: &mut Ids<K>, key: K, id: u64) -> Result<(), Memory>
     requires { IsStrictlySortedBy nat_cmp (ids_in K.cmp map.old.entries key) }
     ensures { OnOk result ((q : K) → ids_in K.cmp map.new.entries q ≡ (if is_eq (K.cmp key q) then placed id (ids_in K.cmp map.old.entries key) else ids_in K.cmp map.old.entries q)) }
 {
-    let mut ids = taken(alloc, map, &key)?;
-    add_id(&mut ids, id)?;
-    map.insert(key, ids)?;
-    Ok(())
+    let ids = map.entry(key)?.or_insert(IdList::new());
+    ids.add(alloc, id)
 }
 
 /// Takes an id from under a key, where those there ascend. A key that has none left goes.
-pub fn drop_from<K: Ord + Drop>(map: &mut Ids<K>, key: K, id: u64) -> Result<(), Memory>
-    requires { IsStrictlySortedBy nat_cmp (ids_in K.cmp map.old.entries key) }
-    ensures { OnOk result ((q : K) → ids_in K.cmp map.new.entries q ≡ (if is_eq (K.cmp key q) then without id (ids_in K.cmp map.old.entries key) else ids_in K.cmp map.old.entries q)) }
+pub fn drop_from<K: Ord + Drop>(map: &mut Ids<K>, key: &K, id: u64)
+    requires { IsStrictlySortedBy nat_cmp (ids_in K.cmp map.old.entries key.now) }
+    ensures { (q : K) → ids_in K.cmp map.new.entries q ≡ (if is_eq (K.cmp key.now q) then without id (ids_in K.cmp map.old.entries key.now) else ids_in K.cmp map.old.entries q) }
 {
-    let Some(mut ids) = map.remove(&key) else {
-        return Ok(());
+    let Some(ids) = map.get_mut(key) else {
+        return;
     };
-    drop_id(&mut ids, id);
-    if !ids.is_empty() {
-        map.insert(key, ids)?;
+    ids.remove(id);
+    if ids.is_empty() {
+        drop(map.remove(key));
     }
-    Ok(())
 }
 
 /// The last key that has ids. A key that has none is not kept, so the very last is looked at alone.
@@ -144,31 +127,18 @@ pub fn add_on(
     requires { IsStrictlySortedBy nat_cmp (piece_ids tables.old.entries table key.now) }
     ensures { OnOk result ((t : ℕ) (k : List Value) → piece_ids tables.new.entries t k ≡ (if (table == t) && is_eq (key_order key.now k) then placed id (piece_ids tables.old.entries t k) else piece_ids tables.old.entries t k)) }
 {
-    let key = key.copy(alloc)?;
-    let mut keys = tables.remove(&table).unwrap_or(BTreeMap::new(alloc));
-    add_to(alloc, &mut keys, key, id)?;
-    tables.insert(table, keys)?;
-    Ok(())
+    let keys = tables.entry(table)?.or_insert(BTreeMap::new(alloc));
+    add_to(alloc, keys, key.copy(alloc)?, id)
 }
 
 /// Takes an id from under a table and a key, where those there ascend.
-pub fn drop_on(
-    alloc: Global,
-    tables: &mut TableIds,
-    table: u16,
-    key: &Key,
-    id: u64,
-) -> Result<(), Memory>
+pub fn drop_on(tables: &mut TableIds, table: u16, key: &Key, id: u64)
     requires { IsStrictlySortedBy nat_cmp (piece_ids tables.old.entries table key.now) }
-    ensures { OnOk result ((t : ℕ) (k : List Value) → piece_ids tables.new.entries t k ≡ (if (table == t) && is_eq (key_order key.now k) then without id (piece_ids tables.old.entries t k) else piece_ids tables.old.entries t k)) }
+    ensures { (t : ℕ) (k : List Value) → piece_ids tables.new.entries t k ≡ (if (table == t) && is_eq (key_order key.now k) then without id (piece_ids tables.old.entries t k) else piece_ids tables.old.entries t k) }
 {
-    let key = key.copy(alloc)?;
-    let Some(mut keys) = tables.remove(&table) else {
-        return Ok(());
-    };
-    drop_from(&mut keys, key, id)?;
-    tables.insert(table, keys)?;
-    Ok(())
+    if let Some(keys) = tables.get_mut(&table) {
+        drop_from(keys, key, id);
+    }
 }
 
 /// Puts an id under a workspace and a number, where those there ascend.
@@ -182,25 +152,22 @@ pub fn add_in(
     requires { IsStrictlySortedBy nat_cmp (number_ids spaces.old.entries space number) }
     ensures { OnOk result ((s n : ℕ) → number_ids spaces.new.entries s n ≡ (if (space == s) && (number == n) then placed id (number_ids spaces.old.entries s n) else number_ids spaces.old.entries s n)) }
 {
-    let mut numbers = spaces.remove(&space).unwrap_or(BTreeMap::new(alloc));
-    add_to(alloc, &mut numbers, number, id)?;
-    spaces.insert(space, numbers)?;
-    Ok(())
+    let numbers = spaces.entry(space)?.or_insert(BTreeMap::new(alloc));
+    add_to(alloc, numbers, number, id)
 }
 
 /// Takes an id from under a workspace and a number, where those there ascend. A workspace that has none left goes.
-pub fn drop_in(spaces: &mut NumberIds, space: u32, number: u64, id: u64) -> Result<(), Memory>
+pub fn drop_in(spaces: &mut NumberIds, space: u32, number: u64, id: u64)
     requires { IsStrictlySortedBy nat_cmp (number_ids spaces.old.entries space number) }
-    ensures { OnOk result ((s n : ℕ) → number_ids spaces.new.entries s n ≡ (if (space == s) && (number == n) then without id (number_ids spaces.old.entries s n) else number_ids spaces.old.entries s n)) }
+    ensures { (s n : ℕ) → number_ids spaces.new.entries s n ≡ (if (space == s) && (number == n) then without id (number_ids spaces.old.entries s n) else number_ids spaces.old.entries s n) }
 {
-    let Some(mut numbers) = spaces.remove(&space) else {
-        return Ok(());
+    let Some(numbers) = spaces.get_mut(&space) else {
+        return;
     };
-    drop_from(&mut numbers, number, id)?;
-    if !numbers.is_empty() {
-        spaces.insert(space, numbers)?;
+    drop_from(numbers, &number, id);
+    if numbers.is_empty() {
+        drop(spaces.remove(&space));
     }
-    Ok(())
 }
 
 /// The last number of a workspace that has ids, 0 where none has.

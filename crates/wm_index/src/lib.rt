@@ -3,6 +3,7 @@
 
 pub mod copies;
 pub mod hists;
+pub mod id_list;
 pub mod ids;
 pub mod index;
 pub mod keyed;

@@ -49,7 +49,7 @@ pub fn next_id(kept: &Kept) -> Option<u64>
 }
 
 /// Drops the id of a record that goes, and tells whether that is a table.
-pub fn drop_old(alloc: Global, kept: &Kept, index: &mut Index, id: u64) -> Result<bool, Memory>
+pub fn drop_old(kept: &Kept, index: &mut Index, id: u64) -> Result<bool, Memory>
     requires ascend { IdsAscend index.old }
     requires nested { AllNested index.old.pieces.entries }
     ensures dropped { OnOk result ((q : Sought) → ids_at index.new q ≡ ids_less (is_sought q) id (record_at (listed kept.now.entries) id) (ids_at index.old q)) }
@@ -58,7 +58,7 @@ pub fn drop_old(alloc: Global, kept: &Kept, index: &mut Index, id: u64) -> Resul
 {
     let found = at(kept, id);
     if let Some(old) = found {
-        index.drop_record(alloc, id, old)?;
+        index.drop_record(id, old)?;
     }
     Ok(table_of(found).is_some())
 }

@@ -1,6 +1,6 @@
 //! The ids of rows by stamp. In a store each stamp has one row, so an id alone is kept for most.
 
-ghost use Rattle.std.specs.Prelude.{◌≡◌, ℕ, ◌==◌, ◌∷◌, [], if◌then◌else◌, None, Some, IfOk, OnOk};
+ghost use Rattle.std.specs.Prelude.{◌≡◌, ℕ, ◌==◌, [], if◌then◌else◌, None, Some, OnOk};
 ghost use Rattle.std.specs.List.Sorted.{IsStrictlySortedBy};
 ghost use Rattle.std.specs.Ordering.{nat_cmp};
 ghost use Rattle.wm_chunks.specs.Numbers.{value_at};
@@ -8,7 +8,7 @@ ghost use Rattle.wm_index.specs.Rows.{row_ids};
 ghost use Rattle.wm_index.specs.Sought.{placed, without};
 ghost use Rattle.wm_index.specs.declared.rows.RowIds.{RowIds};
 
-use crate::ids::add_id;
+use crate::id_list::IdList;
 use crate::keyed::{Ids, add_to, drop_from, ids_of};
 use std::alloc::Global;
 use std::collections::BTreeMap;
@@ -43,16 +43,6 @@ pub fn ids_of_stamp(rows: &RowIds, stamp: u64) -> &[u64]
     }
 }
 
-/// Two ids, in ascending order, or one where they are the same.
-fn both(alloc: Global, id: u64, other: u64) -> Result<Vec<u64>, Memory>
-    ensures { IfOk result (λ ids. ids.items ≡ placed id (other ∷ [])) }
-{
-    let mut ids = Vec::with_capacity(alloc, 2)?;
-    ids.push(other)?;
-    add_id(&mut ids, id)?;
-    Ok(ids)
-}
-
 /// Puts an id under a stamp that has another alone.
 fn add_second(
     alloc: Global,
@@ -64,7 +54,8 @@ fn add_second(
     requires { value_at rows.old.one.entries stamp ≡ Some other }
     ensures { OnOk result ((q : ℕ) → row_ids rows.new q ≡ (if stamp == q then placed id (row_ids rows.old q) else row_ids rows.old q)) }
 {
-    let ids = both(alloc, id, other)?;
+    let mut ids = IdList::one(other);
+    ids.add(alloc, id)?;
     rows.several.insert(stamp, ids)?;
     let _ = rows.one.remove(stamp);
     Ok(())
@@ -104,17 +95,16 @@ fn drop_only(rows: &mut RowIds, stamp: u64, id: u64)
 }
 
 /// Takes an id from under a stamp, where those there ascend.
-pub fn drop_row(rows: &mut RowIds, stamp: u64, id: u64) -> Result<(), Memory>
+pub fn drop_row(rows: &mut RowIds, stamp: u64, id: u64)
     requires { IsStrictlySortedBy nat_cmp (row_ids rows.old stamp) }
-    ensures { OnOk result ((q : ℕ) → row_ids rows.new q ≡ (if stamp == q then without id (row_ids rows.old q) else row_ids rows.old q)) }
+    ensures { (q : ℕ) → row_ids rows.new q ≡ (if stamp == q then without id (row_ids rows.old q) else row_ids rows.old q) }
 {
     match rows.one.get(stamp).copied() {
         Some(other) => {
             if other == id {
                 drop_only(rows, stamp, id);
             }
-            Ok(())
         }
-        None => drop_from(&mut rows.several, stamp, id),
+        None => drop_from(&mut rows.several, &stamp, id),
     }
 }

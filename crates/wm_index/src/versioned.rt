@@ -1,10 +1,8 @@
 //! The ids of pieces by table and key, version by version.
 
-ghost use Rattle.std.specs.Prelude.{◌≡◌, ◌<◌, ◌≤◌, ◌==◌, ◌&&◌, if◌then◌else◌, List, [], ◌∷◌, drop, length, nat_le, take, None, IfErr, IfOk, OnOk};
-ghost use Rattle.std.specs.BTreeMap.{is_at};
+ghost use Rattle.std.specs.Prelude.{◌≡◌, ◌<◌, ◌≤◌, ◌==◌, ◌&&◌, List, [], ◌∷◌, drop, length, nat_le, take, IfErr, IfOk, OnOk};
 ghost use Rattle.std.specs.List.{AllByRecursion};
 ghost use Rattle.std.specs.List.Sorted.{IsStrictlySortedBy};
-ghost use Rattle.std.specs.Map.{lookup};
 ghost use Rattle.std.specs.Ordering.{is_eq, nat_cmp};
 ghost use Rattle.wm_base.specs.Key.{key_order};
 ghost use Rattle.wm_base.specs.declared.value.Value.{Value};
@@ -12,7 +10,7 @@ ghost use Rattle.wm_index.specs.Sought.{placed, without};
 ghost use Rattle.wm_index.specs.Versioned.{AreNested, ChangedOn, ChangedWhere, FitsAt, HasLess, HasMore, IsWithin, StandsAt, VersionsRise, Widens, ids_under, versions_in, versions_on, widened, widened_from};
 ghost use Rattle.wm_index.specs.declared.versioned.Versioned.{Versioned};
 
-use crate::ids::{add_id, drop_id};
+use crate::id_list::IdList;
 use std::alloc::Global;
 use std::collections::BTreeMap;
 use wm_base::{Key, Memory};
@@ -25,7 +23,7 @@ pub struct Versioned {
     pub version: u64,
     pub from: u64,
     pub till: u64,
-    pub ids: Vec<u64>,
+    pub ids: IdList,
 }
 
 /// By key: what each version has that has pieces there, the oldest version first.
@@ -120,31 +118,29 @@ fn span_at(versions: &[Versioned], place: usize, piece: &PieceRecord) -> (u64, u
 }
 
 /// What a version has with one piece, in a period.
-fn with_one(alloc: Global, id: u64, version: u64, span: (u64, u64)) -> Result<Versioned, Memory>
-    ensures version { IfOk result (λ one. one.version ≡ version) }
-    ensures from { IfOk result (λ one. one.from ≡ span.0) }
-    ensures till { IfOk result (λ one. one.till ≡ span.1) }
-    ensures ids { IfOk result (λ one. one.ids.items ≡ id ∷ []) }
+fn with_one(id: u64, version: u64, span: (u64, u64)) -> Versioned
+    ensures version { result.version ≡ version }
+    ensures from { result.from ≡ span.0 }
+    ensures till { result.till ≡ span.1 }
+    ensures ids { result.ids ≡ id ∷ [] }
 {
-    let mut ids = Vec::with_capacity(alloc, 1)?;
-    ids.push(id)?;
-    Ok(Versioned {
+    Versioned {
         version,
         from: span.0,
         till: span.1,
-        ids,
-    })
+        ids: IdList::one(id),
+    }
 }
 
 /// Puts an id among those of a version.
-fn add_own(one: &mut Versioned, id: u64) -> Result<(), Memory>
-    requires { IsStrictlySortedBy nat_cmp one.old.ids.items }
+fn add_own(alloc: Global, one: &mut Versioned, id: u64) -> Result<(), Memory>
+    requires { IsStrictlySortedBy nat_cmp one.old.ids }
     ensures version { OnOk result (one.new.version ≡ one.old.version) }
     ensures from { OnOk result (one.new.from ≡ one.old.from) }
     ensures till { OnOk result (one.new.till ≡ one.old.till) }
-    ensures ids { OnOk result (one.new.ids.items ≡ placed id one.old.ids.items) }
+    ensures ids { OnOk result (one.new.ids ≡ placed id one.old.ids) }
 {
-    add_id(&mut one.ids, id)
+    one.ids.add(alloc, id)
 }
 
 /// Whether the period of a version holds the cells of a piece.
@@ -189,13 +185,13 @@ fn add_version_id(
 {
     match find_version(versions.as_slice(), piece.version) {
         Ok(place) => {
-            add_own(&mut versions[place], id)?;
+            add_own(alloc, &mut versions[place], id)?;
             widen_from(versions.as_mut_slice(), place, piece);
             Ok(())
         }
         Err(place) => {
             let span = span_at(versions.as_slice(), place, piece);
-            let one = with_one(alloc, id, piece.version, span)?;
+            let one = with_one(id, piece.version, span);
             versions.insert(place, one)?;
             widen_from(versions.as_mut_slice(), place + 1, piece);
             Ok(())
@@ -205,14 +201,14 @@ fn add_version_id(
 
 /// Takes an id from those of a version, and tells whether that has none left.
 fn empties(one: &mut Versioned, id: u64) -> bool
-    requires { IsStrictlySortedBy nat_cmp one.old.ids.items }
+    requires { IsStrictlySortedBy nat_cmp one.old.ids }
     ensures version { one.new.version ≡ one.old.version }
     ensures from { one.new.from ≡ one.old.from }
     ensures till { one.new.till ≡ one.old.till }
-    ensures ids { one.new.ids.items ≡ without id one.old.ids.items }
-    ensures empty { result ≡ (length one.new.ids.items == 0) }
+    ensures ids { one.new.ids ≡ without id one.old.ids }
+    ensures empty { result ≡ (length one.new.ids == 0) }
 {
-    drop_id(&mut one.ids, id);
+    one.ids.remove(id);
     one.ids.is_empty()
 }
 
@@ -230,21 +226,7 @@ fn drop_version_id(versions: &mut Vec<Versioned>, version: u64, id: u64)
     }
 }
 
-/// Takes out what each version has of a key. Most keys have one piece, so a new one has room for one version.
-fn taken(alloc: Global, keys: &mut KeyVersions, key: &Key) -> Result<Vec<Versioned>, Memory>
-    ensures versions { IfOk result (λ versions. versions.items ≡ versions_in keys.old.entries key.now) }
-    ensures rest { OnOk result ((k : List Value) → lookup (is_at (key_order k)) keys.new.entries ≡ (if is_at (key_order key.now) k then None else lookup (is_at (key_order k)) keys.old.entries)) }
-{
-    match keys.remove(key) {
-        Some(versions) => Ok(versions),
-        None => {
-            let versions = Vec::with_capacity(alloc, 1)?;
-            Ok(versions)
-        }
-    }
-}
-
-/// Puts the id of a piece under its key.
+/// Puts the id of a piece under its key. Most keys have one piece, so a new one has room for one version.
 fn add_key_id(
     alloc: Global,
     keys: &mut KeyVersions,
@@ -256,32 +238,25 @@ fn add_key_id(
     ensures { OnOk result ((k : List Value) → ChangedWhere (HasMore id piece.now) (is_eq (key_order piece.now.cells.key k)) (versions_in keys.old.entries k) (versions_in keys.new.entries k)) }
 {
     let key = piece.cells.key.copy(alloc)?;
-    let mut versions = taken(alloc, keys, &key)?;
-    add_version_id(alloc, &mut versions, id, piece)?;
-    keys.insert(key, versions)?;
-    Ok(())
+    let room = Vec::with_capacity(alloc, 1)?;
+    let versions = keys.entry(key)?.or_insert(room);
+    add_version_id(alloc, versions, id, piece)
 }
 
 /// Takes the id of a piece from under its key. A key that has none left goes.
-fn drop_key_id(
-    alloc: Global,
-    keys: &mut KeyVersions,
-    id: u64,
-    piece: &PieceRecord,
-) -> Result<(), Memory>
+fn drop_key_id(keys: &mut KeyVersions, id: u64, piece: &PieceRecord)
     requires nested { AreNested (versions_in keys.old.entries piece.now.cells.key) }
     requires ascend { IsStrictlySortedBy nat_cmp (ids_under (versions_in keys.old.entries piece.now.cells.key) piece.now.version) }
-    ensures { OnOk result ((k : List Value) → ChangedWhere (HasLess id piece.now.version) (is_eq (key_order piece.now.cells.key k)) (versions_in keys.old.entries k) (versions_in keys.new.entries k)) }
+    ensures { (k : List Value) → ChangedWhere (HasLess id piece.now.version) (is_eq (key_order piece.now.cells.key k)) (versions_in keys.old.entries k) (versions_in keys.new.entries k) }
 {
-    let key = piece.cells.key.copy(alloc)?;
-    let Some(mut versions) = keys.remove(&key) else {
-        return Ok(());
+    let key = &piece.cells.key;
+    let Some(versions) = keys.get_mut(key) else {
+        return;
     };
-    drop_version_id(&mut versions, piece.version, id);
-    if !versions.is_empty() {
-        keys.insert(key, versions)?;
+    drop_version_id(versions, piece.version, id);
+    if versions.is_empty() {
+        drop(keys.remove(key));
     }
-    Ok(())
 }
 
 /// Puts the id of a piece under its table, key and version.
@@ -296,28 +271,17 @@ pub fn add_piece_id(
     ensures { OnOk result (ChangedOn (HasMore id piece.now) tables.old.entries tables.new.entries piece.now.cells.table piece.now.cells.key) }
 {
     let table = piece.cells.table;
-    let mut keys = tables.remove(&table).unwrap_or(BTreeMap::new(alloc));
-    add_key_id(alloc, &mut keys, id, piece)?;
-    tables.insert(table, keys)?;
-    Ok(())
+    let keys = tables.entry(table)?.or_insert(BTreeMap::new(alloc));
+    add_key_id(alloc, keys, id, piece)
 }
 
 /// Takes the id of a piece from under its table, key and version.
-pub fn drop_piece_id(
-    alloc: Global,
-    tables: &mut PieceIds,
-    id: u64,
-    piece: &PieceRecord,
-) -> Result<(), Memory>
+pub fn drop_piece_id(tables: &mut PieceIds, id: u64, piece: &PieceRecord)
     requires nested { AreNested (versions_on tables.old.entries piece.now.cells.table piece.now.cells.key) }
     requires ascend { IsStrictlySortedBy nat_cmp (ids_under (versions_on tables.old.entries piece.now.cells.table piece.now.cells.key) piece.now.version) }
-    ensures { OnOk result (ChangedOn (HasLess id piece.now.version) tables.old.entries tables.new.entries piece.now.cells.table piece.now.cells.key) }
+    ensures { ChangedOn (HasLess id piece.now.version) tables.old.entries tables.new.entries piece.now.cells.table piece.now.cells.key }
 {
-    let table = piece.cells.table;
-    let Some(mut keys) = tables.remove(&table) else {
-        return Ok(());
-    };
-    drop_key_id(alloc, &mut keys, id, piece)?;
-    tables.insert(table, keys)?;
-    Ok(())
+    if let Some(keys) = tables.get_mut(&piece.cells.table) {
+        drop_key_id(keys, id, piece);
+    }
 }

@@ -89,12 +89,12 @@ apart_ids id ss rs from till (j ∷ js) same none all =
 apart_key : (id b : ℕ) (ss rs : List Stored) (es : List Versioned) → Same id ss rs → VersionsFrom b es → ((v : ℕ) → has_id id (ids_under es v) ≡ false) → AreSpanned ss es → AreSpanned rs es
 apart_key id b ss rs [] same up none all = tt
 apart_key id b ss rs (e ∷ es) same up none all =
-    (apart_ids id ss rs e.from e.till e.ids.items same here all.0, apart_key id (e.version + 1) ss rs es same up.1 (λ v. by_test v (e.version == v) refl (none v)) all.1)
+    (apart_ids id ss rs e.from e.till e.ids same here all.0, apart_key id (e.version + 1) ss rs es same up.1 (λ v. by_test v (e.version == v) refl (none v)) all.1)
   where
-    here : has_id id e.ids.items ≡ false
-    here = ap (λ b. has_id id (cond b e.ids.items (ids_under es e.version))) (sym (eq-eqb e.version e.version refl)) ∙ none e.version
+    here : has_id id e.ids ≡ false
+    here = ap (λ b. has_id id (cond b e.ids (ids_under es e.version))) (sym (eq-eqb e.version e.version refl)) ∙ none e.version
 
-    by_test : (v : ℕ) (b : Bool) → (e.version == v) ≡ b → has_id id (cond b e.ids.items (ids_under es v)) ≡ false → has_id id (ids_under es v) ≡ false
+    by_test : (v : ℕ) (b : Bool) → (e.version == v) ≡ b → has_id id (cond b e.ids (ids_under es v)) ≡ false → has_id id (ids_under es v) ≡ false
     by_test v true is h = ap (has_id id) (ap (ids_under es) (sym (eqb-true e.version v is)) ∙ none_from (e.version + 1) e.version es up.1 (omega arith))
     by_test v false is h = h
 

@@ -52,7 +52,7 @@ fn reindex(
     ensures indexed { OnOk result ((next : Numbers OneRecord) → AreOrdered next.entries → listed next.entries ≡ set_at id becomes.now (listed kept.now.entries) → IsIndexed next index.new) }
     ensures tables { IfOk result (λ touched. touched ≡ false → (parts_of (set_at id becomes.now (listed kept.now.entries))).tables ≡ (parts_of (listed kept.now.entries)).tables) }
 {
-    let stood = drop_old(alloc, kept, index, id)?;
+    let stood = drop_old(kept, index, id)?;
     let stands = add_new(alloc, index, id, becomes)?;
     Ok(is_either(stood, stands))
 }

@@ -1,27 +1,26 @@
 -- Rows that are put into groups one by one are the groups of GROUP BY.
-use Rattle.std.proofs.Common.{◌≡◌, ◌==◌, Bool, true, false, cond, List, [], ◌∷◌, ◌++◌, length, map, filter, Some, None, Option, unwrap_or, append-nil, refl, sym, ap, subst, ◌∙◌}
+use Rattle.std.proofs.Common.{◌≡◌, ◌≤◌, ◌-◌, Bool, true, false, cond, List, [], ◌∷◌, ◌++◌, length, get_or, take, drop, map, filter, Some, None, Option, unwrap_or, append-nil, refl, sym, ap, subst, ◌∙◌, arith}
 use Rattle.std.proofs.Math.Bool.{false≢true}
 use Rattle.std.proofs.lemmas.Cmp.{tied_itself}
+use Rattle.std.proofs.lemmas.List.{take_all}
 use Rattle.std.proofs.lemmas.List.Elements.{filter-append}
+use Rattle.std.proofs.lemmas.List.Kept.{IsStrictlySortedBy-dedup}
 use Rattle.std.proofs.lemmas.List.Sorted.{ranks_by}
 use Rattle.std.specs.BTreeMap.{is_at}
-use Rattle.std.specs.Cmp.{Equal-is}
-use Rattle.std.specs.List.{AllByRecursion}
-use Rattle.std.specs.List.Sorted.{IsStrictlySortedBy, ties}
+use Rattle.std.specs.List.{AllByRecursion, IsDistinct, dedup_from}
+use Rattle.std.specs.List.Sorted.{IsSorted, IsStrictlySortedBy, ties}
 use Rattle.std.specs.Map.{keys_of, lookup, values_of}
-use Rattle.std.specs.Ordering.{is_eq, is_lt, nat_cmp, ordering_reverse}
+use Rattle.std.specs.Ordering.{eq_by_cmp, is_eq, is_lt, ordering_reverse}
 use Rattle.std.specs.declared.cmp.Ordering.{Ordering}
 use Rattle.std.specs.declared.cmp.Ordering.TheVariants.{Less, Equal, Greater}
-use Rattle.wm_base.specs.Orders.{both_equal, lists_exact, value_order-equal}
 use Rattle.wm_base.specs.declared.columns.Column.{Column}
 use Rattle.wm_base.specs.declared.row.Row.{Row}
 use Rattle.wm_base.specs.declared.tree.column.Col.{Col}
 use Rattle.wm_base.specs.declared.value.Value.{Value}
-use Rattle.wm_base.specs.Value.{value_order}
-use Rattle.wm_select.specs.Groups.{AreGrouped, rows_under}
-use Rattle.wm_select.specs.Orders.{left_to_right_total}
+use Rattle.wm_select.specs.Groups.{AreGrouped, looked_up, rows_under, value_in}
+use Rattle.wm_select.specs.Orders.{left_to_right_total, same_list}
 use Rattle.wm_select.specs.Query.{group_values, in_groups}
-use Rattle.wm_select.specs.Sorting.{ascending, left_to_right, null_place, sorted, stands_before, has_values_of, changes_from, changes, distinct_by}
+use Rattle.wm_select.specs.Sorting.{left_to_right, sorted, stands_before, has_values_of, changes_from, changes, distinct_by}
 use Rattle.wm_select.proofs.KeyLemmas.{map_map}
 use Rattle.wm_select.proofs.SortLemmas.{Above, Rises, filter_in_order, one_order, rises_sorted}
 
@@ -42,13 +41,6 @@ turned a b = left_to_right_total.antisymm a b
 itself : (a : Key) → left_to_right a a ≡ Equal
 itself a = tied_itself left_to_right_total a
 
--- values that the order finds equal are one
-ascending_exact : (v w : Value) → ascending v w ≡ Equal → v ≡ w
-ascending_exact v w e = value_order-equal v w (both_equal (nat_cmp (null_place v) (null_place w)) (value_order v w) e).1
-
-same_key : (a b : Key) → is_eq (left_to_right a b) ≡ true → a ≡ b
-same_key a b e = lists_exact ascending ascending_exact a b ((Equal-is (left_to_right a b)).0 e)
-
 turned_equal : (a b : Key) → is_eq (left_to_right a b) ≡ is_eq (left_to_right b a)
 turned_equal a b = ap is_eq (turned a b) ∙ reversed (left_to_right b a)
   where
@@ -58,6 +50,10 @@ turned_equal a b = ap is_eq (turned a b) ∙ reversed (left_to_right b a)
     reversed Greater = refl
 
 -- ---- rows are put into groups one by one
+
+-- the values at columns whose names were looked up are those at the columns
+pub values_found : (cols : List Col) (columns : List Column) (row : Row) → map (value_in row) (map (looked_up columns) cols) ≡ group_values cols columns row
+values_found cols columns row = map_map (looked_up columns) (value_in row) cols
 
 pub grouped_none : (cols : List Col) (columns : List Column) (groups : List (Key × List Row)) → groups ≡ [] → AreGrouped cols columns [] groups
 grouped_none cols columns groups none = subst (λ gs. AreGrouped cols columns [] gs) (sym none) (record { own = λ key. refl; filled = λ key e. cc e })
@@ -80,7 +76,7 @@ grouped_more cols columns rows row key old next was is put = record {
     own_by q true e found =
         let met : has_q q row ≡ true = ap (λ k. is_eq (left_to_right k q)) (sym is) ∙ e in
         let last : filter (has_q q) (row ∷ []) ≡ row ∷ [] = rw met in
-        ap (λ (o : Option (List Row)). unwrap_or o []) found ∙ ap (λ rs. rs ++ row ∷ []) (ap (λ k. rows_under old k) (same_key key q e) ∙ was.own q)
+        ap (λ (o : Option (List Row)). unwrap_or o []) found ∙ ap (λ rs. rs ++ row ∷ []) (ap (λ k. rows_under old k) (same_list key q e) ∙ was.own q)
         ∙ sym (split q ∙ ap (λ rs. filter (has_q q) rows ++ rs) last)
     own_by q false e found =
         let unmet : has_q q row ≡ false = ap (λ k. is_eq (left_to_right k q)) (sym is) ∙ e in
@@ -95,7 +91,28 @@ grouped_more cols columns rows row key old next was is put = record {
     filled_by q true found e = not_none (rows_under old key) (sym found ∙ e)
     filled_by q false found e = was.filled q (sym found ∙ e)
 
+-- the same groups in another order
+pub grouped_again : (cols : List Col) (columns : List Column) (rows : List Row) (old next : List (Key × List Row)) → AreGrouped cols columns rows old
+    → ((q : Key) → lookup (is_at (left_to_right q)) next ≡ lookup (is_at (left_to_right q)) old) → AreGrouped cols columns rows next
+grouped_again cols columns rows old next was same = record {
+  own = λ key. ap (λ (o : Option (List Row)). unwrap_or o []) (same key) ∙ was.own key;
+  filled = λ key e. was.filled key (sym (same key) ∙ e);
+}
+
 -- ---- keys that ascend
+
+-- of keys that differ `dedup` leaves all
+dedup_apart : (k : Key) (ks : List Key) → IsDistinct (eq_by_cmp left_to_right) (k ∷ ks) → dedup_from (eq_by_cmp left_to_right) k ks ≡ k ∷ ks
+unfolding IsDistinct
+dedup_apart k [] apart = refl
+dedup_apart k (w ∷ ws) apart =
+    let other : eq_by_cmp left_to_right w k ≡ false = turned_equal w k ∙ apart.0.0 in
+    rw other (ap (λ zs. k ∷ zs) (dedup_apart w ws apart.1))
+
+-- keys that differ and are sorted ascend
+pub ascend_apart : (ks : List Key) → IsSorted left_to_right ks → IsDistinct (eq_by_cmp left_to_right) ks → IsStrictlySortedBy left_to_right ks
+ascend_apart [] up apart = IsStrictlySortedBy-dedup left_to_right_total (λ x y. refl) [] up
+ascend_apart (k ∷ ks) up apart = subst (λ zs. IsStrictlySortedBy left_to_right zs) (dedup_apart k ks apart) (IsStrictlySortedBy-dedup left_to_right_total (λ x y. refl) (k ∷ ks) up)
 
 -- of keys that stand behind another none is it
 others_apart : {X : Type 0} (k : Key) (rest : List (Key × X)) → AllByRecursion (λ y. left_to_right k y ≡ Less) (keys_of rest) → lookup (is_at (left_to_right k)) rest ≡ None
@@ -115,7 +132,7 @@ values_by {X} f (e ∷ es) up own =
     still : (key : Key) (x : X) (b : Bool) → is_eq (left_to_right key e.0) ≡ b → lookup (is_at (left_to_right key)) es ≡ Some x → lookup (is_at (left_to_right key)) (e ∷ es) ≡ Some x
     still key x false unmet found = rw unmet found
     still key x true met found =
-        let none : lookup (is_at (left_to_right key)) es ≡ None = ap (λ k. lookup (is_at (left_to_right k)) es) (same_key key e.0 met) ∙ others_apart e.0 es up.0 in
+        let none : lookup (is_at (left_to_right key)) es ≡ None = ap (λ k. lookup (is_at (left_to_right k)) es) (same_list key e.0 met) ∙ others_apart e.0 es up.0 in
         let nay : None ≡ Some x = sym none ∙ found in
         cc nay
 
@@ -163,7 +180,7 @@ key_once w (e ∷ es) up filled = by_test (is_eq (left_to_right w e.0)) refl e.1
     by_test true met (r ∷ rs) is rest =
         let tied : ties before w e.0 ≡ true = ties_equal w e.0 ∙ turned_equal e.0 w ∙ met in
         let found : lookup (is_at (left_to_right w)) (e ∷ es) ≡ Some e.1 = rw met in
-        let same : w ≡ e.0 = same_key w e.0 met in
+        let same : w ≡ e.0 = same_list w e.0 met in
         let front : filter (ties before w) (keys_of (e ∷ es)) ≡ e.0 ∷ filter (ties before w) (keys_of es) = rw tied in
         let none : filter (ties before w) (keys_of es) ≡ [] = ap (λ k. filter (ties before k) (keys_of es)) same ∙ none_tied e.0 (keys_of es) up.0 in
         front ∙ ap (λ ks. e.0 ∷ ks) none ∙ ap (λ k. k ∷ []) (sym same) ∙ sym (ap (λ (o : Option (List Row)). once w (unwrap_or o [])) (found ∙ ap (λ (rs : List Row). Some rs) is))
@@ -205,7 +222,7 @@ module _ {X : Type 0} (key : X → Key) where
   none_behind w x y (z ∷ zs) own other low above = let unmet : has key w z ≡ false = apart in rw unmet (none_behind w x y zs own other low above.1)
     where
       is : key x ≡ w
-      is = same_key (key x) w own
+      is = same_list (key x) w own
 
       -- x stands before y
       less : left_to_right (key x) (key y) ≡ Less
@@ -242,7 +259,7 @@ module _ {X : Type 0} (key : X → Key) where
       by_same true e here there = by_own (has key w x) refl
         where
           alike : has key w y ≡ has key w x
-          alike = ap (λ k. is_eq (left_to_right k w)) (sym (same_key (key x) (key y) e))
+          alike = ap (λ k. is_eq (left_to_right k w)) (sym (same_list (key x) (key y) e))
 
           stay : changes_from (has_values_of key) x (y ∷ ys) ≡ changes_from (has_values_of key) x ys
           stay = rw e
@@ -265,7 +282,7 @@ module _ {X : Type 0} (key : X → Key) where
 
           by_own : (b c : Bool) → has key w x ≡ b → has key w y ≡ c → Goal
           by_own true true own other =
-              let one : key x ≡ key y = same_key (key x) w own ∙ sym (same_key (key y) w other) in
+              let one : key x ≡ key y = same_list (key x) w own ∙ sym (same_list (key y) w other) in
               let met : has_values_of key x y ≡ true = ap (λ k. is_eq (left_to_right k (key y))) one ∙ ap is_eq (itself (key y)) in
               absurd (false≢true (sym e ∙ met))
           by_own true false own other =
@@ -280,7 +297,7 @@ module _ {X : Type 0} (key : X → Key) where
               let front : filter (ties before w) (key y ∷ map key (changes_from (has_values_of key) y ys)) ≡ key y ∷ filter (ties before w) (map key (changes_from (has_values_of key) y ys)) = rw tied in
               let rest : cond (has key w y) [] (once w (filter (has key w) ys)) ≡ [] = rw other in
               let whole : cond (has key w x) [] (once w (filter (has key w) (y ∷ ys))) ≡ w ∷ [] = rw (own, other) in
-              goes ∙ front ∙ ap (λ ks. key y ∷ ks) (there ∙ rest) ∙ ap (λ k. k ∷ []) (same_key (key y) w other) ∙ sym whole
+              goes ∙ front ∙ ap (λ ks. key y ∷ ks) (there ∙ rest) ∙ ap (λ k. k ∷ []) (same_list (key y) w other) ∙ sym whole
           by_own false false own other =
               let untied : ties before w (key y) ≡ false = ties_equal w (key y) ∙ other in
               let skip : filter (ties before w) (key y ∷ map key (changes_from (has_values_of key) y ys)) ≡ filter (ties before w) (map key (changes_from (has_values_of key) y ys)) = rw untied in
@@ -298,7 +315,7 @@ module _ {X : Type 0} (key : X → Key) where
           let front : filter (ties before w) (map key (changes (has_values_of key) (y ∷ ys))) ≡ key y ∷ filter (ties before w) (map key (changes_from (has_values_of key) y ys)) = rw tied in
           let none : cond (has key w y) [] (once w (filter (has key w) ys)) ≡ [] = rw own in
           let whole : once w (filter (has key w) (y ∷ ys)) ≡ w ∷ [] = rw own in
-          front ∙ ap (λ ks. key y ∷ ks) (rest ∙ none) ∙ ap (λ k. k ∷ []) (same_key (key y) w own) ∙ sym whole
+          front ∙ ap (λ ks. key y ∷ ks) (rest ∙ none) ∙ ap (λ k. k ∷ []) (same_list (key y) w own) ∙ sym whole
       by_own false own rest =
           let untied : ties before w (key y) ≡ false = ties_equal w (key y) ∙ own in
           let skip : filter (ties before w) (map key (changes (has_values_of key) (y ∷ ys))) ≡ filter (ties before w) (map key (changes_from (has_values_of key) y ys)) = rw untied in
@@ -313,7 +330,7 @@ module _ {X : Type 0} (key : X → Key) where
       ∙ ap (λ ys. once w ys) (filter_in_order (stands_before key) (has key w) tied xs)
     where
       tied : (x y : X) → has key w x ≡ true → has key w y ≡ true → stands_before key y x ≡ false
-      tied x y ex ey = ap (λ k. is_lt (left_to_right (key y) k)) (same_key (key x) w ex ∙ sym (same_key (key y) w ey)) ∙ ap is_lt (itself (key y))
+      tied x y ex ey = ap (λ k. is_lt (left_to_right (key y) k)) (same_list (key x) w ex ∙ sym (same_list (key y) w ey)) ∙ ap is_lt (itself (key y))
 
 -- ---- the groups
 
@@ -344,6 +361,12 @@ groups_by cols columns rows entries up grouped =
         (λ w. key_once w entries up (grouped.filled w) ∙ ap (λ (rs : List Row). once w rs) (grouped.own w) ∙ sym (one_each (group_values cols columns) w rows))
 
 -- with GROUP BY they are the groups of the query
-pub groups_are : (cols : List Col) (columns : List Column) (rows : List Row) (entries : List (Key × List Row)) → (length cols == 0) ≡ false → IsStrictlySortedBy left_to_right (keys_of entries) → AreGrouped cols columns rows entries → values_of entries ≡ in_groups cols columns rows
-groups_are [] columns rows entries e up grouped = absurd (false≢true (sym e))
-groups_are (col ∷ cols) columns rows entries e up grouped = groups_by (col ∷ cols) columns rows entries up grouped
+pub groups_are : (col : Col) (cols : List Col) (columns : List Column) (rows : List Row) (entries : List (Key × List Row)) → IsStrictlySortedBy left_to_right (keys_of entries) → AreGrouped (col ∷ cols) columns rows entries → values_of entries ≡ in_groups (col ∷ cols) columns rows
+groups_are col cols = groups_by (col ∷ cols)
+
+-- the first column, before the others
+pub front_is : (cols : List Col) (first : Col) → 1 ≤ length cols → first ≡ get_or cols 0 first → first ∷ take (length cols - 1) (drop 1 cols) ≡ cols
+front_is [] first some is = absurd (omega (arith, some))
+front_is (col ∷ cols) first some is =
+    let others : take (length (col ∷ cols) - 1) cols ≡ cols = take_all (length (col ∷ cols) - 1) cols (omega arith) in
+    ap (λ (rest : List Col). first ∷ rest) others ∙ ap (λ (one : Col). one ∷ cols) is

@@ -8,3 +8,4 @@ pub mod Counting
 pub mod Narrowing
 pub mod Orders
 pub mod Groups
+pub mod Hashes

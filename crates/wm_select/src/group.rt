@@ -5,45 +5,19 @@ ghost use Rattle.std.specs.List.Sorted.{IsStrictlySortedBy};
 ghost use Rattle.std.specs.Map.{keys_of, lookup, values_of};
 ghost use Rattle.std.specs.Ordering.{is_eq};
 ghost use Rattle.wm_base.specs.declared.value.Value.{Value as OneValue};
-ghost use Rattle.wm_select.specs.Query.{group_values, in_groups};
+ghost use Rattle.wm_select.specs.Query.{in_groups};
 ghost use Rattle.wm_select.specs.Sorting.{left_to_right};
 ghost use Rattle.wm_select.specs.Groups.{AreGrouped, rows_under};
 
+use crate::group_columns::GroupColumns;
 use crate::group_key::GroupKey;
+use indexmap::IndexMap;
 use std::alloc::Global;
-use std::collections::BTreeMap;
 use wm_base::tree::column::Col;
-use wm_base::{Column, Columns, Memory, Row, RowList, Value, Values};
-use wm_expr::owned::column_value;
+use wm_base::{Columns, Memory, Row, RowList};
 
-/// The rows of each group.
-type Groups = BTreeMap<GroupKey, RowList>;
-
-/// Adds the values of a row at the columns of GROUP BY.
-fn push_group_values(
-    alloc: Global,
-    values: &mut Values,
-    cols: &[Col],
-    columns: &[Column],
-    row: &[Value],
-) -> Result<(), Memory>
-    ensures { OnOk result (values.new ≡ values.old ++ group_values cols.now columns.now (record { values = row.now })) }
-{
-    for col in cols {
-        values.push(column_value(alloc, col, columns, row)?)?;
-    }
-    Ok(())
-}
-
-/// The values of a row at the columns of GROUP BY.
-fn group_key(alloc: Global, cols: &[Col], columns: &Columns, row: &Row) -> Result<GroupKey, Memory>
-    ensures { IfOk result (λ key. key ≡ group_values cols.now columns.now row.now) }
-{
-    let mut values = Values::from_vec(Vec::with_capacity(alloc, cols.len())?);
-    let row = row.values.as_slice();
-    push_group_values(alloc, &mut values, cols, columns.as_slice(), row)?;
-    Ok(GroupKey::from_values(values))
-}
+/// The rows of each group, by the values that they have at the columns of GROUP BY.
+type Groups = IndexMap<GroupKey, RowList>;
 
 /// Puts a row behind the others of its group.
 fn put_row(alloc: Global, groups: &mut Groups, key: GroupKey, row: Row) -> Result<(), Memory>
@@ -62,15 +36,17 @@ fn put_row(alloc: Global, groups: &mut Groups, key: GroupKey, row: Row) -> Resul
 fn put_rows(
     alloc: Global,
     groups: &mut Groups,
-    cols: &[Col],
+    first: &Col,
+    others: &[Col],
     columns: &Columns,
     rows: Vec<Row>,
 ) -> Result<(), Memory>
     requires { groups.old.entries ≡ [] }
-    ensures { OnOk result (AreGrouped cols.now columns.now rows.items groups.new.entries) }
+    ensures { OnOk result (AreGrouped (first.now ∷ others.now) columns.now rows.items groups.new.entries) }
 {
+    let found = GroupColumns::find(alloc, first, others, columns.as_slice())?;
     for row in rows {
-        let key = group_key(alloc, cols, columns, &row)?;
+        let key = found.key(alloc, &row)?;
         put_row(alloc, groups, key, row)?;
     }
     Ok(())
@@ -85,12 +61,37 @@ fn whole(alloc: Global, rows: RowList) -> Result<Vec<RowList>, Memory>
     Ok(groups)
 }
 
-/// The rows of the groups, in order of their values.
-fn in_order(alloc: Global, groups: Groups) -> Result<Vec<RowList>, Memory>
-    ensures rows { IfOk result (λ all. all.items ≡ values_of groups.entries) }
-    ensures ordered { IfOk result (λ all. IsStrictlySortedBy left_to_right (keys_of groups.entries)) }
+/// Puts the groups in order of their values.
+fn sort_groups(groups: &mut Groups) -> Result<(), Memory>
+    ensures same { OnOk result ((q : List OneValue) → lookup (is_at (left_to_right q)) groups.new.entries ≡ lookup (is_at (left_to_right q)) groups.old.entries) }
+    ensures ordered { OnOk result (IsStrictlySortedBy left_to_right (keys_of groups.new.entries)) }
 {
-    let all = groups.into_iter().map(|(_, group)| group).collect(alloc)?;
+    groups.sort_keys()?;
+    Ok(())
+}
+
+/// The rows of the groups, in their order.
+fn rows_of(alloc: Global, groups: Groups) -> Result<Vec<RowList>, Memory>
+    ensures { IfOk result (λ all. all.items ≡ values_of groups.entries) }
+{
+    let all = groups.into_values().collect(alloc)?;
+    Ok(all)
+}
+
+/// A group of the rows for each list of their values at one column and some others, in ascending order.
+fn by_columns(
+    alloc: Global,
+    first: &Col,
+    others: &[Col],
+    columns: &Columns,
+    rows: RowList,
+) -> Result<Vec<RowList>, Memory>
+    ensures { IfOk result (λ groups. groups.items ≡ in_groups (first.now ∷ others.now) columns.now rows) }
+{
+    let mut groups = IndexMap::new(alloc);
+    put_rows(alloc, &mut groups, first, others, columns, rows.into_vec())?;
+    sort_groups(&mut groups)?;
+    let all = rows_of(alloc, groups)?;
     Ok(all)
 }
 
@@ -103,12 +104,14 @@ pub fn in_groups(
 ) -> Result<Vec<RowList>, Memory>
     ensures { IfOk result (λ groups. groups.items ≡ in_groups cols.now columns.now rows) }
 {
-    if cols.is_empty() {
-        let groups = whole(alloc, rows)?;
-        return Ok(groups);
+    match cols {
+        [first, others @ ..] => {
+            let all = by_columns(alloc, first, others, columns, rows)?;
+            Ok(all)
+        }
+        [] => {
+            let groups = whole(alloc, rows)?;
+            Ok(groups)
+        }
     }
-    let mut groups = BTreeMap::new(alloc);
-    put_rows(alloc, &mut groups, cols, columns, rows.into_vec())?;
-    let all = in_order(alloc, groups)?;
-    Ok(all)
 }

@@ -1,45 +1,51 @@
 //! The values that the rows of a group have at the columns of GROUP BY.
-ghost use Rattle.std.specs.Prelude.{◌≡◌, refl};
+ghost use Rattle.std.specs.Prelude.{◌≡◌, ◌∷◌, fold, refl};
 ghost use Rattle.std.specs.Cmp.{partial_order_from_total, partial_equiv_from_equiv};
 ghost use Rattle.std.specs.Ordering.{as_partial_cmp, eq_by_cmp};
 ghost use Rattle.std.proofs.lemmas.Cmp.{eq_by_cmp_equiv};
+ghost use Rattle.wm_select.specs.Hashes.{all_writes, equal_writes, writes_of};
 ghost use Rattle.wm_select.specs.Orders.{left_to_right_total};
 ghost use Rattle.wm_select.specs.Sorting.{left_to_right};
 
-use crate::order::left_to_right;
+use crate::order::{ascending, left_to_right};
 use std::cmp::Ordering;
+use std::hash::{Hash, Hasher};
 use std::marker::Model;
-use wm_base::Values;
+use wm_base::{Value, Values};
 
 /// The values that the rows of a group have at the columns of GROUP BY, in the order of groups: from left to right,
 /// each ascending.
 #[derive(Drop)]
 pub struct GroupKey {
-    values: Values,
+    first: Value,
+    others: Values,
 }
 
 impl Model for GroupKey {
-    ghost use Rattle.std.specs.Prelude.{List};
+    ghost use Rattle.std.specs.Prelude.{List, ◌∷◌};
     ghost use Rattle.wm_base.specs.declared.value.Value.{Value as OneValue};
 
     ghost Value = { List OneValue };
 
-    ghost view = { λ k. k.values };
+    ghost view = { λ k. k.first ∷ k.others };
 }
 
 impl GroupKey {
     /// The key of these values.
-    pub fn from_values(values: Values) -> GroupKey
-        ensures { result ≡ values }
+    pub fn new(first: Value, others: Values) -> GroupKey
+        ensures { result ≡ first ∷ others }
     {
-        GroupKey { values }
+        GroupKey { first, others }
     }
 
     /// How two groups stand to one another.
     fn compare(&self, other: &GroupKey) -> Ordering
         ensures { result ≡ left_to_right self.now other.now }
     {
-        left_to_right(self.values.as_slice(), other.values.as_slice())
+        match ascending(&self.first, &other.first) {
+            Ordering::Equal => left_to_right(self.others.as_slice(), other.others.as_slice()),
+            order => order,
+        }
     }
 }
 
@@ -78,5 +84,42 @@ impl Ord for GroupKey {
 
     fn cmp(&self, other: &GroupKey) -> Ordering {
         self.compare(other)
+    }
+}
+
+/// Feeds a value to a hash.
+fn feed<H: Hasher>(value: &Value, state: &mut H)
+    ensures { state.new ≡ fold H.write state.old (writes_of value.now) }
+{
+    match value {
+        Value::Null => {}
+        Value::Num(number) => state.write_i64(*number),
+        Value::Text(text) => state.write(text.as_bytes()),
+        Value::Time(instant) => state.write_u64(instant.seconds()),
+        Value::Span(period) => {
+            state.write_u64(period.from().seconds());
+            state.write_u64(period.till().seconds());
+        }
+    }
+}
+
+/// Feeds values to a hash, one behind another.
+fn feed_all<H: Hasher>(values: &[Value], state: &mut H)
+    ensures { state.new ≡ fold H.write state.old (all_writes values.now) }
+{
+    if let [value, others @ ..] = values {
+        feed(value, state);
+        feed_all(others, state);
+    }
+}
+
+impl Hash for GroupKey {
+    ghost hash_input = { all_writes };
+
+    ghost respects_eq = { equal_writes };
+
+    fn hash<H: Hasher>(&self, state: &mut H) {
+        feed(&self.first, state);
+        feed_all(self.others.as_slice(), state);
     }
 }

@@ -12,6 +12,7 @@ mod equalities;
 mod fault;
 mod found;
 mod group;
+mod group_columns;
 mod group_key;
 mod items;
 mod kept;

@@ -16,16 +16,23 @@ fn null_place(value: &Value) -> u8
     }
 }
 
+/// How two values compare in ascending order, of which not both are numbers: NULL stands behind all else.
+fn ascending_of_any(one: &Value, other: &Value) -> Ordering
+    ensures { result ≡ ascending one.now other.now }
+{
+    null_place(one)
+        .cmp(&null_place(other))
+        .then(one.order(other))
+}
+
 /// How two values compare in ascending order: NULL stands behind all else.
-fn ascending(one: &Value, other: &Value) -> Ordering
+pub fn ascending(one: &Value, other: &Value) -> Ordering
     ensures { result ≡ ascending one.now other.now }
 {
     match (one, other) {
         // Numbers, which most columns hold, are compared at once: neither is NULL.
         (Value::Num(m), Value::Num(n)) => m.cmp(n),
-        _ => null_place(one)
-            .cmp(&null_place(other))
-            .then(one.order(other)),
+        _ => ascending_of_any(one, other),
     }
 }
 

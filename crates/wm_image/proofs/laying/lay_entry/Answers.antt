@@ -17,6 +17,6 @@ returns-then-not-is_reached c = λ t less.
 pub returns : goal.returns
 returns c = λ t less.
     c.in_ok-both.ensures t less
-    ∙ ap (λ (ids : List ℕ). option_or (held_at c.args.upper t) (first_held (kind_at as_piece c.args.image.now ids) c.args.entry.now.version t)) c.as_slice.ensures.value
+    ∙ ap (λ (ids : List ℕ). option_or (held_at c.args.upper t) (first_held (kind_at as_piece c.args.image.now ids) c.args.entry.now.version t)) c.as_slice.ensures
     ∙ ap (option_or (held_at c.args.upper t))
     (is_on c.args.image.now (path_in (newest_first (parts_of c.args.image.now).versions) c.args.at) c.args.entry.now t (sym c.is_reached.ensures ∙ c.if-not-is_reached.false))

@@ -1,14 +1,14 @@
-use Rattle.std.proofs.Common.{◌&&◌, cond, eqb, List, sym, ap, ◌∙◌}
-use Rattle.std.specs.Ordering.{is_eq}
-use Rattle.wm_base.specs.Key.{key_order}
-use Rattle.wm_base.specs.declared.value.Value.{Value}
+use Rattle.std.proofs.Common.{◌≡◌, Some, refl, sym, ap, ◌∙◌}
+use Rattle.std.specs.BTreeMap.{is_at}
+use Rattle.std.specs.Map.{lookup}
+use Rattle.std.specs.Option.{option_copied_mut}
+use Rattle.std.specs.Ordering.{nat_cmp}
 use Rattle.wm_index.proofs.TableLists.{changed_on, keys_found}
-use Rattle.wm_index.specs.Sought.{without, piece_ids}
+use Rattle.wm_index.specs.Sought.{without}
 use Rattle.wm_index.proofs.keyed.drop_on.Goals as goal
 
-pub returns : goal.returns
-returns c = λ t k.
-    changed_on (without c.args.id) c.args.tables.now.entries c.remove.new.self.entries c.insert.new.self.entries c.args.table c.in_ok-key.key c.in-Some.keys.entries c.drop_from.new.map
-    (ap keys_found (sym c.remove.ensures.value ∙ c.in-Some.is))
-    c.remove.ensures.updates.0 c.in_ok-insert.ensures.updates.0 c.in_ok-drop_from.ensures t k
-    ∙ ap (λ (key : List Value). cond (eqb c.args.table t && is_eq (key_order key k)) (without c.args.id (piece_ids c.args.tables.now.entries t k)) (piece_ids c.args.tables.now.entries t k)) c.in_ok-key.ensures
+pub returns-in-Some : goal.returns-in-Some
+returns-in-Some c = λ t k.
+    let there : lookup (is_at (nat_cmp c.args.table)) c.args.tables.now.entries ≡ Some c.in-Some.keys.now = sym c.get_mut.ensures.value ∙ ap option_copied_mut c.in-Some.is in
+    changed_on (without c.args.id) c.args.tables.now.entries (c.get_mut.follows.lender c.drop_from.new.map).entries c.args.table c.args.key.now c.in-Some.keys.now.entries c.drop_from.new.map
+    (ap keys_found there) ((c.get_mut.follows.holds c.drop_from.new.map).3 (rw there refl)).0 c.drop_from.ensures t k

@@ -1,8 +1,16 @@
+use Rattle.std.proofs.Common.{sym, ap, subst, ◌∙◌}
+use Rattle.std.specs.List.Sorted.{IsStrictlySortedBy}
+use Rattle.std.specs.Ordering.{nat_cmp}
+use Rattle.wm_index.proofs.IdLists.{one_ascends}
 use Rattle.wm_index.proofs.RowLists.{second_told}
+use Rattle.wm_index.specs.Sought.{placed}
 use Rattle.wm_index.specs.declared.rows.RowIds.{RowIds}
 use Rattle.wm_index.proofs.rows.add_second.Goals as goal
+
+pub add-requires : goal.add-requires
+add-requires c = subst (IsStrictlySortedBy nat_cmp) (sym c.one-ids.ensures) (one_ascends c.args.other)
 
 pub returns : goal.returns
 returns c =
     let new : RowIds = record { one = c.remove.new.self; several = c.insert.new.self } in
-    second_told c.args.id c.args.other c.args.stamp c.args.rows.now new c.in_ok-ids.ids c.requires c.in_ok-ids.ensures c.remove.ensures.sets c.in_ok-insert.ensures.updates.0
+    second_told c.args.id c.args.other c.args.stamp c.args.rows.now new c.add.new.self c.requires (c.in_ok-add.ensures ∙ ap (placed c.args.id) c.one-ids.ensures) c.remove.ensures.sets c.in_ok-insert.ensures.updates.0

@@ -1,5 +1,4 @@
 use Rattle.std.proofs.Common.{Some, refl, sym, ap, ◌∙◌, subst}
-use Rattle.std.proofs.lemmas.Result.{on_ok_weaker}
 use Rattle.std.specs.List.Sorted.{IsStrictlySortedBy}
 use Rattle.std.specs.Ordering.{nat_cmp}
 use Rattle.wm_index.proofs.RowLists.{several_told}
@@ -18,4 +17,4 @@ drop_from-requires c =
 pub returns-in-None : goal.returns-in-None
 returns-in-None c =
     let new : RowIds = record { one = c.args.rows.now.one; several = c.drop_from.new.map } in
-    on_ok_weaker c.drop_from.result (several_told (without c.args.id) c.args.stamp c.args.rows.now new (sym c.get.ensures ∙ sym c.copied.ensures ∙ c.in-None.is) refl) c.drop_from.ensures
+    several_told (without c.args.id) c.args.stamp c.args.rows.now new (sym c.get.ensures ∙ sym c.copied.ensures ∙ c.in-None.is) refl c.drop_from.ensures

@@ -15,7 +15,7 @@ pub add_own-requires : goal.add_own-requires
 add_own-requires c =
     subst (IsStrictlySortedBy nat_cmp)
     (stands_under c.args.versions.now.items c.args.piece.now.version c.in-Ok.place c.index_mut.result.now (subst (λ (es : List Versioned). StandsAt c.args.piece.now.version es c.in-Ok.place) c.as_slice.ensures.value c.in-Ok.ensures.found)
-    ∙ ap (λ (e : Versioned). e.ids.items) (sym c.index_mut.ensures.value))
+    ∙ ap (λ (e : Versioned). e.ids) (sym c.index_mut.ensures.value))
     c.requires.ascend
 
 pub widen_from-requires : goal.widen_from-requires
@@ -31,7 +31,7 @@ pub widen_from-requires-in-Err : goal.widen_from-requires-in-Err
 widen_from-requires-in-Err c =
     let es : List Versioned = c.args.versions.now.items in
     subst (λ (fs : List Versioned). Widens (drop (c.in-Err.place + 1) fs)) (sym (c.as_mut_slice-in-Err.ensures.value ∙ c.in_ok-insert-in-Err.ensures.items))
-    (put_before es c.in-Err.place c.in_ok-one-in-Err.one (subst (λ (fs : List Versioned). c.in-Err.place ≤ length fs) c.as_slice.ensures.value c.in-Err.ensures.between) c.requires.nested.widens)
+    (put_before es c.in-Err.place c.with_one-one.result (subst (λ (fs : List Versioned). c.in-Err.place ≤ length fs) c.as_slice.ensures.value c.in-Err.ensures.between) c.requires.nested.widens)
 
 pub returns-in_ok-add_own-in-Ok : goal.returns-in_ok-add_own-in-Ok
 returns-in_ok-add_own-in-Ok c =
@@ -54,9 +54,9 @@ returns-in_ok-insert-in-Err c =
     (sym
     (written c.insert.new.self.len c.widen_from-in-Err.new.versions c.as_mut_slice-in-Err.result.now c.insert.new.self.items c.as_mut_slice-in-Err.ensures.value c.as_mut_slice-in-Err.ensures.len c.widen_from-in-Err.auto.versions
     ∙ c.widen_from-in-Err.ensures ∙ ap (widened_from x (c.in-Err.place + 1)) (c.as_mut_slice-in-Err.ensures.value ∙ c.in_ok-insert-in-Err.ensures.items)))
-    (more_put es c.in-Err.place c.args.id x c.in_ok-one-in-Err.one c.span_at-span.result.0 c.span_at-span.result.1 c.requires.nested
+    (more_put es c.in-Err.place c.args.id x c.with_one-one.result c.span_at-span.result.0 c.span_at-span.result.1 c.requires.nested
     (subst (λ (fs : List Versioned). FitsAt x.version fs c.in-Err.place) c.as_slice.ensures.value c.in-Err.ensures.fits)
-    (subst (λ (fs : List Versioned). c.in-Err.place ≤ length fs) c.as_slice.ensures.value c.in-Err.ensures.between) c.in_ok-one-in-Err.ensures.version c.in_ok-one-in-Err.ensures.from c.in_ok-one-in-Err.ensures.till
-    c.in_ok-one-in-Err.ensures.ids c.span_at-span.ensures.from c.span_at-span.ensures.till
+    (subst (λ (fs : List Versioned). c.in-Err.place ≤ length fs) c.as_slice.ensures.value c.in-Err.ensures.between) c.with_one-one.ensures.version c.with_one-one.ensures.from c.with_one-one.ensures.till
+    c.with_one-one.ensures.ids c.span_at-span.ensures.from c.span_at-span.ensures.till
     (subst (λ (fs : List Versioned). AllByRecursion (λ (e : Versioned). (c.span_at-span.result.0 ≤ e.from) × (e.till ≤ c.span_at-span.result.1)) (take c.in-Err.place fs)) c.as_slice-in-Err.ensures.value c.span_at-span.ensures.older)
     (subst (λ (fs : List Versioned). AllByRecursion (IsWithin x c.span_at-span.result.0 c.span_at-span.result.1) (drop c.in-Err.place fs)) c.as_slice-in-Err.ensures.value c.span_at-span.ensures.newer))

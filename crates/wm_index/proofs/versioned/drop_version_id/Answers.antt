@@ -18,7 +18,7 @@ pub empties-requires : goal.empties-requires
 empties-requires c =
     subst (IsStrictlySortedBy nat_cmp)
     (stands_under c.args.versions.now.items c.args.version c.in-Ok.place c.index_mut.result.now (subst (λ (es : List Versioned). StandsAt c.args.version es c.in-Ok.place) c.as_slice.ensures.value c.in-Ok.ensures.found)
-    ∙ ap (λ (e : Versioned). e.ids.items) (sym c.index_mut.ensures.value))
+    ∙ ap (λ (e : Versioned). e.ids) (sym c.index_mut.ensures.value))
     c.requires.ascend
 
 pub returns-then-empties : goal.returns-then-empties
@@ -27,7 +27,7 @@ returns-then-empties c =
     (less_gone c.args.versions.now.items c.args.version c.in-Ok.place c.args.id c.index_mut.result.now c.requires.nested
     (subst (λ (es : List Versioned). StandsAt c.args.version es c.in-Ok.place) c.as_slice.ensures.value c.in-Ok.ensures.found)
     (subst (λ (es : List Versioned). c.in-Ok.place < length es) c.as_slice.ensures.value c.in-Ok.ensures.within) c.index_mut.ensures.value
-    (sym c.empties.ensures.ids ∙ nil_from_length c.empties.new.one.ids.items (eqb-true (length c.empties.new.one.ids.items) 0 (sym c.empties.ensures.empty ∙ c.if-empties.true))))
+    (sym c.empties.ensures.ids ∙ nil_from_length c.empties.new.one.ids (eqb-true (length c.empties.new.one.ids) 0 (sym c.empties.ensures.empty ∙ c.if-empties.true))))
 
 pub returns-else-empties : goal.returns-else-empties
 returns-else-empties c =

@@ -6,7 +6,7 @@ use Rattle.wm_index.proofs.versioned.ids_of_version.Goals as goal
 
 pub returns-in-Ok : goal.returns-in-Ok
 returns-in-Ok c =
-    c.as_slice.ensures.value
+    c.as_slice.ensures
     ∙ sym (stands_under c.versions_of_key-versions.result.now c.args.version c.in-Ok.place c.index-versions-place.result c.in-Ok.ensures.found)
     ∙ ap (λ (es : List Versioned). ids_under es c.args.version) c.versions_of_key-versions.ensures
 

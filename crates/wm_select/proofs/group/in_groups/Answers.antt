@@ -1,11 +1,9 @@
-use Rattle.std.proofs.Common.{List, sym, subst, ◌∙◌}
-use Rattle.wm_base.specs.declared.row.Row.{Row}
-use Rattle.wm_select.specs.Groups.{AreGrouped}
-use Rattle.wm_select.proofs.GroupLemmas.{groups_are}
+use Rattle.std.proofs.Common.{List, ap, ◌∙◌}
+use Rattle.wm_base.specs.declared.tree.column.Col.{Col}
+use Rattle.wm_select.specs.Query.{in_groups}
+use Rattle.wm_select.proofs.GroupLemmas.{front_is}
 use Rattle.wm_select.proofs.group.in_groups.Goals as goal
 
-pub returns : goal.returns
-returns c =
-    c.in_ok-all.ensures.rows
-    ∙ groups_are c.args.cols.now c.args.columns.now c.args.rows c.put_rows.new.groups.entries (sym c.is_empty.ensures ∙ c.if-is_empty.false) c.in_ok-all.ensures.ordered
-    (subst (λ (rows : List Row). AreGrouped c.args.cols.now c.args.columns.now rows c.put_rows.new.groups.entries) c.into_vec.ensures c.in_ok-put_rows.ensures)
+pub returns-in_ok-all-in-len1-up : goal.returns-in_ok-all-in-len1-up
+returns-in_ok-all-in-len1-up c =
+    c.in_ok-all-in-len1-up.ensures ∙ ap (λ (cols : List Col). in_groups cols c.args.columns.now c.args.rows) (front_is c.args.cols.now c.first-item.result c.in-len1-up.len_at_least c.first-item.is)

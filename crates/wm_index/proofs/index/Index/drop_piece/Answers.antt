@@ -1,4 +1,3 @@
-use Rattle.std.proofs.lemmas.Result.{on_ok_weaker}
 use Rattle.wm_index.proofs.Versioning.{less_ids, piece_changed}
 use Rattle.wm_index.specs.Sought.{PieceAt, without}
 use Rattle.wm_index.proofs.index.Index.drop_piece.Goals as goal
@@ -8,7 +7,5 @@ drop_piece_id-requires-clause-ascend c = c.requires.ascend (PieceAt c.args.piece
 
 pub returns-clause-ids : goal.returns-clause-ids
 returns-clause-ids c =
-    on_ok_weaker c.drop_piece_id.result
-    (λ changed. piece_changed (without c.args.id) c.args.self.now c.drop_among.new.map c.drop_piece_id.new.tables c.args.piece.now c.in_ok-drop_among.ensures
-    (less_ids c.args.self.now.pieces.entries c.drop_piece_id.new.tables.entries c.args.id c.args.piece.now changed))
-    c.drop_piece_id.ensures
+    piece_changed (without c.args.id) c.args.self.now c.drop_among.new.map c.drop_piece_id.new.tables c.args.piece.now c.in_ok-drop_among.ensures
+    (less_ids c.args.self.now.pieces.entries c.drop_piece_id.new.tables.entries c.args.id c.args.piece.now c.drop_piece_id.ensures)

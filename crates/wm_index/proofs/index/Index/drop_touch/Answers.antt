@@ -1,4 +1,3 @@
-use Rattle.std.proofs.lemmas.Result.{on_ok_weaker}
 use Rattle.wm_index.proofs.Pairs.{touch_changed}
 use Rattle.wm_index.specs.Sought.{TouchesAt, without}
 use Rattle.wm_index.proofs.index.Index.drop_touch.Goals as goal
@@ -8,6 +7,4 @@ drop_on-requires c = c.requires (TouchesAt c.args.touch.now.cells.table c.args.t
 
 pub returns-clause-ids : goal.returns-clause-ids
 returns-clause-ids c =
-    on_ok_weaker c.drop_on.result
-    (touch_changed (without c.args.id) c.args.self.now c.drop_among.new.map c.drop_at.new.places c.drop_on.new.tables c.args.touch.now c.in_ok-drop_among.ensures c.drop_at.ensures)
-    c.drop_on.ensures
+    touch_changed (without c.args.id) c.args.self.now c.drop_among.new.map c.drop_at.new.places c.drop_on.new.tables c.args.touch.now c.in_ok-drop_among.ensures c.drop_at.ensures c.drop_on.ensures
