@@ -214,9 +214,10 @@ int statx(int file, const char *path, int how, unsigned mask, struct statx *to)
     return fate == FAILS ? failed(kind, EIO) : (int)ended(kind, fate, syscall(SYS_statx, file, path, how, mask, to));
 }
 
+/* Asked for the end, this tells the size. */
 off_t lseek(int file, off_t at, int from)
 {
-    enum kind kind = kind_of(file, SEEK);
+    enum kind kind = kind_of(file, from == SEEK_END ? SIZE : SEEK);
     enum fate fate = fate_of(kind);
     return fate == FAILS ? failed(kind, EIO) : ended(kind, fate, syscall(SYS_lseek, file, at, from));
 }
