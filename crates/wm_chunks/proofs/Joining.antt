@@ -12,8 +12,8 @@ use Rattle.std.specs.Ordering.{nat_cmp}
 use Rattle.std.specs.declared.alloc.Global.{Global}
 use Rattle.std.specs.declared.cmp.Ordering.TheVariants.{Less}
 use Rattle.std.specs.declared.vec.Vec.{Vec}
-use Rattle.wm_chunks.proofs.Placing.{from_less, is_at-apart, is_at-same, less_than, none_above, none_below, rising_ordered, within_from}
-use Rattle.wm_chunks.specs.Numbers.{AreChunks, AreOrdered, IsChunk, RiseFrom, RiseWithin, Sets, entries_found, joined, last_number, value_at}
+use Rattle.wm_chunks.proofs.Placing.{from_less, is_at-apart, is_at-same, less_than, none_above, none_below, within_from}
+use Rattle.wm_chunks.specs.Numbers.{AreChunks, IsChunk, RiseFrom, RiseWithin, Sets, entries_found, joined, last_number, value_at}
 
 -- each chunk has the numbers of its place, and stands behind those before it
 abbrev pub ChunksFrom : {V : Type 0} → ℕ → List (ℕ × Vec (ℕ × V) Global) → Type 0
@@ -54,7 +54,7 @@ chunked cs are = chunks_from 0 cs are.ordered (all_from cs) (λ place d is. (are
 
 -- ---- they ascend
 
-rise-append : {V : Type 0} (low high : ℕ) (es fs : List (ℕ × V)) → RiseWithin low high es → RiseFrom high fs → RiseFrom low (es ++ fs)
+pub rise-append : {V : Type 0} (low high : ℕ) (es fs : List (ℕ × V)) → RiseWithin low high es → RiseFrom high fs → RiseFrom low (es ++ fs)
 rise-append low high [] fs up more = from_less low high fs up more
 rise-append low high (e ∷ es) fs up more = (up.0, rise-append (e.0 + 1) high es fs up.1 more)
 
@@ -69,12 +69,9 @@ joined_rises low (c ∷ cs) up =
 pub all_rise : {V : Type 0} (cs : List (ℕ × Vec (ℕ × V) Global)) → AreChunks cs → RiseFrom 0 (joined cs)
 all_rise cs are = from_less 0 (0 * 32) (joined cs) (omega arith) (joined_rises 0 cs (chunked cs are))
 
-pub all_ordered : {V : Type 0} (cs : List (ℕ × Vec (ℕ × V) Global)) → AreChunks cs → AreOrdered (joined cs)
-all_ordered cs are = rising_ordered 0 (joined cs) (all_rise cs are)
-
 -- ---- what is found in them
 
-value-append : {V : Type 0} (es fs : List (ℕ × V)) (q : ℕ) → value_at (es ++ fs) q ≡ option_or (value_at es q) (value_at fs q)
+pub value-append : {V : Type 0} (es fs : List (ℕ × V)) (q : ℕ) → value_at (es ++ fs) q ≡ option_or (value_at es q) (value_at fs q)
 value-append [] fs q = refl
 value-append {V} (e ∷ es) fs q = by_test (is_at (nat_cmp q) e.0) (value-append es fs q)
   where
@@ -82,7 +79,7 @@ value-append {V} (e ∷ es) fs q = by_test (is_at (nat_cmp q) e.0) (value-append
     by_test true rest = refl
     by_test false rest = rest
 
-or_none : {T : Type 0} (o p : Option T) → p ≡ None → option_or o p ≡ o
+pub or_none : {T : Type 0} (o p : Option T) → p ≡ None → option_or o p ≡ o
 or_none None p is = is
 or_none (Some x) p is = refl
 
@@ -203,7 +200,7 @@ last-append [] f fs = refl
 last-append (e ∷ []) f fs = refl
 last-append (e ∷ g ∷ es) f fs = last-append (g ∷ es) f fs
 
-last-behind : {V : Type 0} (es fs : List (ℕ × V)) → 0 < length fs → last_number (es ++ fs) ≡ last_number fs
+pub last-behind : {V : Type 0} (es fs : List (ℕ × V)) → 0 < length fs → last_number (es ++ fs) ≡ last_number fs
 last-behind es [] some = absurd (omega (arith, some))
 last-behind es (f ∷ fs) some = last-append es f fs
 

@@ -1,5 +1,5 @@
 -- Numbers that ascend: one is sought, and its value is set or taken out.
-use Rattle.std.proofs.Common.{◌≡◌, ◌≢◌, ℕ, zero, suc, ◌<◌, ◌≤◌, ◌+◌, ◌-◌, Bool, true, false, cond, List, [], ◌∷◌, length, get_or, insert, remove, Option, Some, None, is_some, IsSome, IfNone, IfSome, Result, Ok, Err, IfOk, IfErr, refl, sym, ap, subst, ◌∙◌, ◌⊎◌, inl, inr, arith}
+use Rattle.std.proofs.Common.{◌≡◌, ◌≢◌, ℕ, zero, suc, ◌<◌, ◌≤◌, ◌+◌, Bool, true, false, cond, List, [], ◌∷◌, length, get_or, insert, remove, Option, Some, None, is_some, IsSome, IfNone, IfSome, Result, Ok, Err, IfOk, IfErr, refl, sym, ap, subst, ◌∙◌, ◌⊎◌, inl, inr, arith}
 use Rattle.std.proofs.Math.ListN.{set}
 use Rattle.std.proofs.lemmas.Bool.{cases_lt, cases_eq}
 use Rattle.std.proofs.lemmas.Cmp.{ranked}
@@ -42,10 +42,10 @@ is_at-apart m n apart = by_place (cases_lt m n)
     by_place (inr le) = is_at-more m n (omega (arith, le, apart))
 
 -- what a look-up finds first
-value-same : {V : Type 0} (e : ℕ × V) (es : List (ℕ × V)) (q : ℕ) → e.0 ≡ q → value_at (e ∷ es) q ≡ Some e.1
+pub value-same : {V : Type 0} (e : ℕ × V) (es : List (ℕ × V)) (q : ℕ) → e.0 ≡ q → value_at (e ∷ es) q ≡ Some e.1
 value-same e es q same = ap (λ b. cond b (Some e.1) (value_at es q)) (is_at-same q e.0 (sym same))
 
-value-apart : {V : Type 0} (e : ℕ × V) (es : List (ℕ × V)) (q : ℕ) → (q ≡ e.0 → ⊥) → value_at (e ∷ es) q ≡ value_at es q
+pub value-apart : {V : Type 0} (e : ℕ × V) (es : List (ℕ × V)) (q : ℕ) → (q ≡ e.0 → ⊥) → value_at (e ∷ es) q ≡ value_at es q
 value-apart e es q apart = ap (λ b. cond b (Some e.1) (value_at es q)) (is_at-apart q e.0 apart)
 
 -- ---- numbers that rise

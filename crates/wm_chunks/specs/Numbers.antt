@@ -77,3 +77,9 @@ module _ {V : Type 0} where
   pub record AreChunks (cs : List (ℕ × Vec (ℕ × V) Global)) : Type 0 where
     pub ordered : IsStrictlySortedBy nat_cmp (keys_of cs)
     pub own : (place : ℕ) (c : Vec (ℕ × V) Global) → lookup (is_at (nat_cmp place)) cs ≡ Some c → IsChunk place c.items × (0 < length c.items)
+
+  -- beside them a chunk has the numbers of its place, and they have none as great
+  pub record IsNewest (cs : List (ℕ × Vec (ℕ × V) Global)) (place : ℕ) (es : List (ℕ × V)) : Type 0 where
+    pub older : AreChunks cs
+    pub own : IsChunk place es
+    pub below : (q : ℕ) → place * 32 ≤ q → value_at (joined cs) q ≡ None

@@ -2,6 +2,7 @@
 #![tactic(auto)]
 
 mod chunk;
+mod chunks;
 mod number_map;
 
 pub use number_map::NumberMap;

@@ -1,117 +1,76 @@
 //! A map from numbers to values that wastes little room: a list of up to 32 entries for the numbers between two
 //! multiples of 32, in place of a node that ascending numbers leave half full.
 
-ghost use Rattle.std.specs.Prelude.{◌≡◌, ◌<◌, ◌/◌, ℕ, [], None, Some, IfNone, IfOk, IfSome, IsSome, OnErr, OnOk};
-ghost use Rattle.std.specs.BTreeMap.{is_at};
-ghost use Rattle.std.specs.Map.{lookup};
+ghost use Rattle.std.specs.Prelude.{◌≡◌, ◌<◌, ◌/◌, ◌++◌, ℕ, [], None, Some, IfNone, IfOk, IfSome, IsSome, OnErr, OnOk};
 ghost use Rattle.std.specs.Option.{option_copied};
-ghost use Rattle.std.specs.Ordering.{nat_cmp};
-ghost use Rattle.wm_chunks.specs.Numbers.{AreChunks, AreOrdered, Sets, entries_found, joined, last_number, value_at};
+ghost use Rattle.wm_chunks.specs.Numbers.{AreOrdered, IsNewest, Sets, joined, value_at};
 
 use crate::chunk::{WIDTH, get, insert, last, remove};
+use crate::chunks::{Chunks, find, greatest, put, take};
 use std::alloc::{AllocError, Global};
 use std::collections::BTreeMap;
 use std::marker::Model;
+use std::mem::replace;
 
-/// By the quotient of its numbers and the width of a chunk: the entries of a chunk, in ascending order.
-type Chunks<V> = BTreeMap<u64, Vec<(u64, V)>>;
+/// A chunk that stands apart, for the greatest numbers are put and asked for most: to find it costs no search.
+#[derive(Drop)]
+struct Newest<V> {
+    place: u64,
+    entries: Vec<(u64, V)>,
+}
 
 /// Values under numbers, in ascending order.
 #[derive(Drop)]
 pub struct NumberMap<V> {
     alloc: Global,
-    chunks: Chunks<V>,
+    older: Chunks<V>,
+    newest: Newest<V>,
 }
 
 impl<V> Model for NumberMap<V> {
-    ghost use Rattle.wm_chunks.specs.Numbers.{AreChunks, Numbers, joined, numbers, numbers_code};
+    ghost use Rattle.std.specs.Prelude.{◌++◌};
+    ghost use Rattle.wm_chunks.specs.Numbers.{IsNewest, Numbers, joined, numbers, numbers_code};
 
     ghost Value = { Numbers V };
 
     ghost coded = { numbers_code V.code };
 
-    ghost view = { λ m. numbers (joined m.chunks.entries) };
+    ghost view = { λ m. numbers (joined m.older.entries ++ m.newest.entries.items) };
 
-    ghost invariant = { λ m. AreChunks m.chunks.entries };
+    ghost invariant = { λ m. IsNewest m.older.entries m.newest.place m.newest.entries.items };
 }
 
-/// Puts the first number of a chunk.
-fn begin_chunk<V: Drop>(
+/// Begins a new newest chunk with a number of a greater place. The one before joins the older ones, unless it is empty.
+fn begin_newest<V: Drop>(
     alloc: Global,
-    chunks: &mut Chunks<V>,
+    older: &mut Chunks<V>,
+    newest: &mut Newest<V>,
     number: u64,
     value: V,
 ) -> Result<(), AllocError>
-    requires chunks { AreChunks chunks.old.entries }
-    requires none { entries_found (lookup (is_at (nat_cmp (number / 32))) chunks.old.entries) ≡ [] }
-    ensures chunks { AreChunks chunks.new.entries }
-    ensures sets { OnOk result (Sets number (Some value) (joined chunks.old.entries) (joined chunks.new.entries)) }
-    ensures err { OnErr result (joined chunks.new.entries ≡ joined chunks.old.entries) }
+    requires newest { IsNewest older.old.entries newest.old.place newest.old.entries.items }
+    requires greater { newest.old.place < number / 32 }
+    ensures newest { IsNewest older.new.entries newest.new.place newest.new.entries.items }
+    ensures sets { OnOk result (Sets number (Some value) (joined older.old.entries ++ newest.old.entries.items) (joined older.new.entries ++ newest.new.entries.items)) }
+    ensures err { OnErr result (joined older.new.entries ++ newest.new.entries.items ≡ joined older.old.entries ++ newest.old.entries.items) }
 {
-    let mut chunk = Vec::new(alloc);
-    chunk.push((number, value))?;
-    chunks.insert(number / WIDTH, chunk)?;
-    Ok(())
-}
-
-/// Sets the value of a number, and gives the one that it had.
-fn put<V: Drop>(
-    alloc: Global,
-    chunks: &mut Chunks<V>,
-    number: u64,
-    value: V,
-) -> Result<Option<V>, AllocError>
-    requires { AreChunks chunks.old.entries }
-    ensures chunks { AreChunks chunks.new.entries }
-    ensures old { IfOk result (λ old. old ≡ value_at (joined chunks.old.entries) number) }
-    ensures sets { OnOk result (Sets number (Some value) (joined chunks.old.entries) (joined chunks.new.entries)) }
-    ensures err { OnErr result (joined chunks.new.entries ≡ joined chunks.old.entries) }
-{
-    let place = number / WIDTH;
-    if let Some(chunk) = chunks.get_mut(&place) {
-        return insert(chunk, number, value);
-    }
-    begin_chunk(alloc, chunks, number, value)?;
-    Ok(None)
-}
-
-/// Takes out the value of a number. A chunk that has none left goes.
-fn take<V: Drop>(chunks: &mut Chunks<V>, number: u64) -> Option<V>
-    requires { AreChunks chunks.old.entries }
-    ensures chunks { AreChunks chunks.new.entries }
-    ensures old { result ≡ value_at (joined chunks.old.entries) number }
-    ensures sets { Sets number None (joined chunks.old.entries) (joined chunks.new.entries) }
-{
-    let place = number / WIDTH;
-    let Some(chunk) = chunks.get_mut(&place) else {
-        return None;
+    let mut entries = Vec::new(alloc);
+    entries.push((number, value))?;
+    let begun = Newest {
+        place: number / WIDTH,
+        entries,
     };
-    let old = remove(chunk, number);
-    if chunk.is_empty() {
-        drop(chunks.remove(&place));
+    let before = replace(newest, begun);
+    if before.entries.is_empty() {
+        return Ok(());
     }
-    old
-}
-
-/// The value of a number.
-fn find<V>(chunks: &Chunks<V>, number: u64) -> Option<&V>
-    requires { AreChunks chunks.now.entries }
-    ensures { option_copied result ≡ value_at (joined chunks.now.entries) number }
-{
-    match chunks.get(&(number / WIDTH)) {
-        Some(chunk) => get(chunk.as_slice(), number),
-        None => None,
-    }
-}
-
-/// The greatest number.
-fn greatest<V>(chunks: &Chunks<V>) -> Option<u64>
-    requires { AreChunks chunks.now.entries }
-    ensures { result ≡ last_number (joined chunks.now.entries) }
-{
-    match chunks.last_key_value() {
-        Some((_, chunk)) => last(chunk.as_slice()),
-        None => None,
+    match older.insert(before.place, before.entries) {
+        Ok(_) => Ok(()),
+        Err(failed) => {
+            newest.place = failed.value.0;
+            newest.entries = failed.value.1;
+            Err(AllocError)
+        }
     }
 }
 
@@ -123,7 +82,11 @@ impl<V> NumberMap<V> {
     {
         NumberMap {
             alloc,
-            chunks: BTreeMap::new(alloc),
+            older: BTreeMap::new(alloc),
+            newest: Newest {
+                place: 0,
+                entries: Vec::new(alloc),
+            },
         }
     }
 
@@ -131,7 +94,14 @@ impl<V> NumberMap<V> {
     pub fn get(&self, number: u64) -> Option<&V>
         ensures { option_copied result ≡ value_at self.now.entries number }
     {
-        find(&self.chunks, number)
+        let place = number / WIDTH;
+        if place < self.newest.place {
+            return find(&self.older, number);
+        }
+        if self.newest.place < place {
+            return None;
+        }
+        get(self.newest.entries.as_slice(), number)
     }
 
     /// The greatest number.
@@ -140,7 +110,10 @@ impl<V> NumberMap<V> {
         ensures valued { IfSome result (λ last. IsSome (value_at self.now.entries last)) }
         ensures greatest { IfSome result (λ last. (q : ℕ) → last < q → value_at self.now.entries q ≡ None) }
     {
-        greatest(&self.chunks)
+        if self.newest.entries.is_empty() {
+            return greatest(&self.older);
+        }
+        last(self.newest.entries.as_slice())
     }
 
     /// Sets the value of a number, and gives the one that it had. An error, that memory ran out, changes nothing.
@@ -152,7 +125,15 @@ impl<V> NumberMap<V> {
         ensures err { OnErr result (self.new.entries ≡ self.old.entries) }
         ensures ordered { AreOrdered self.new.entries }
     {
-        put(self.alloc, &mut self.chunks, number, value)
+        let place = number / WIDTH;
+        if place < self.newest.place {
+            return put(self.alloc, &mut self.older, number, value);
+        }
+        if self.newest.place < place {
+            begin_newest(self.alloc, &mut self.older, &mut self.newest, number, value)?;
+            return Ok(None);
+        }
+        insert(&mut self.newest.entries, number, value)
     }
 
     /// Takes out the value of a number.
@@ -163,6 +144,13 @@ impl<V> NumberMap<V> {
         ensures sets { Sets number None self.old.entries self.new.entries }
         ensures ordered { AreOrdered self.new.entries }
     {
-        take(&mut self.chunks, number)
+        let place = number / WIDTH;
+        if place < self.newest.place {
+            return take(&mut self.older, number);
+        }
+        if self.newest.place < place {
+            return None;
+        }
+        remove(&mut self.newest.entries, number)
     }
 }

@@ -1,0 +1,9 @@
+pub mod IdLists
+pub mod TableLists
+pub mod Placing
+pub mod Widening
+pub mod Pairs
+pub mod Versioning
+pub mod Lasts
+pub mod Since
+pub mod RowLists

@@ -1,0 +1,4 @@
+pub mod Held
+pub mod Ids
+pub mod Versioned
+pub mod Rows
