@@ -15,14 +15,14 @@ use Rattle.std.specs.declared.cmp.Ordering.{Ordering}
 use Rattle.std.specs.declared.cmp.Ordering.TheVariants.{Less, Equal, Greater}
 use Rattle.wm_base.specs.declared.columns.Column.{Column}
 use Rattle.wm_base.specs.declared.row.Row.{Row}
-use Rattle.wm_base.specs.declared.tree.column.Col.{Col}
+use Rattle.wm_syntax.specs.declared.column.Col.{Col}
 use Rattle.wm_base.specs.declared.value.Value.{Value}
 use Rattle.wm_select.specs.Groups.{AreGrouped, looked_up, rows_under, value_in}
-use Rattle.wm_select.specs.Orders.{left_to_right_total, same_list}
+use Rattle.wm_ordering.specs.Orders.{left_to_right_total, same_list}
 use Rattle.wm_select.specs.Query.{group_values, in_groups}
-use Rattle.wm_select.specs.Sorting.{left_to_right, sorted, stands_before, has_values_of, changes_from, changes, distinct_by}
-use Rattle.wm_select.proofs.KeyLemmas.{map_map}
-use Rattle.wm_select.proofs.SortLemmas.{Above, Rises, filter_in_order, one_order, rises_sorted}
+use Rattle.wm_ordering.specs.Sorting.{left_to_right, sorted, stands_before, has_values_of, changes_from, changes, distinct_by}
+use Rattle.wm_ordering.proofs.KeyLemmas.{map_map}
+use Rattle.wm_ordering.proofs.SortLemmas.{Above, Rises, filter_in_order, one_order, rises_sorted}
 
 abbrev Key : Type 0
 Key = List Value

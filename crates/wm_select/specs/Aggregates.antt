@@ -1,8 +1,8 @@
 -- Aggregates of the values that an expression has on the rows of a group. NULL is skipped.
 use Rattle.std.specs.Prelude.{not, ◌==◌, if◌then◌else◌, List, [], ◌∷◌, length, filter, Option, Some, None, option_map, ℤ, pos, ◌+ℤ◌, unwrap_or}
 use Rattle.std.specs.Ordering.{is_lt, is_gt}
-use Rattle.wm_base.specs.declared.tree.query.Agg.{Agg}
-use Rattle.wm_base.specs.declared.tree.query.Agg.TheVariants as aggs
+use Rattle.wm_syntax.specs.declared.query.Agg.{Agg}
+use Rattle.wm_syntax.specs.declared.query.Agg.TheVariants as aggs
 use Rattle.wm_base.specs.declared.value.Value.{Value}
 use Rattle.wm_base.specs.declared.value.Value.TheVariants as values
 use Rattle.wm_base.specs.Value.{value_order}

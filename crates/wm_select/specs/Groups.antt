@@ -6,13 +6,13 @@ use Rattle.std.specs.Map.{lookup}
 use Rattle.std.specs.Ordering.{is_eq}
 use Rattle.wm_base.specs.declared.columns.Column.{Column}
 use Rattle.wm_base.specs.declared.row.Row.{Row}
-use Rattle.wm_base.specs.declared.tree.column.Col.{Col}
+use Rattle.wm_syntax.specs.declared.column.Col.{Col}
 use Rattle.wm_base.specs.declared.value.Value.{Value}
 use Rattle.wm_base.specs.declared.value.Value.TheVariants as values
 use Rattle.wm_spec.specs.Operands.{is_named, suffixed}
 use Rattle.wm_select.specs.declared.group_columns.GroupColumn.{GroupColumn}
 use Rattle.wm_select.specs.Query.{group_values}
-use Rattle.wm_select.specs.Sorting.{left_to_right}
+use Rattle.wm_ordering.specs.Sorting.{left_to_right}
 
 -- the first of the columns that has the name
 abbrev pub looked_up : List Column → Col → GroupColumn

@@ -6,8 +6,8 @@ use Rattle.std.specs.List.{flat_map}
 use Rattle.std.specs.Ordering.{eq_by_cmp}
 use Rattle.wm_base.specs.declared.value.Value.{Value}
 use Rattle.wm_base.specs.declared.value.Value.TheVariants as values
-use Rattle.wm_select.specs.Orders.{same_list}
-use Rattle.wm_select.specs.Sorting.{left_to_right}
+use Rattle.wm_ordering.specs.Orders.{same_list}
+use Rattle.wm_ordering.specs.Sorting.{left_to_right}
 
 -- the writes that a value makes
 abbrev pub writes_of : Value → List (List ℕ)

@@ -4,12 +4,12 @@ ghost use Rattle.std.specs.Int.{w64};
 ghost use Rattle.std.specs.Result.{IsErrOf};
 ghost use Rattle.wm_spec.specs.Conditions.{is_null as null};
 ghost use Rattle.wm_spec.specs.Expressions.{number_of as number_of_value, number_value, in_range as range};
-ghost use Rattle.wm_select.specs.Aggregates.{present, total, sum_of, least, greatest, least_beside, greatest_beside, aggregated};
+ghost use Rattle.wm_select.specs.Aggregates.{present, total, sum_of, least, greatest, aggregated};
 
 use std::alloc::Global;
-use wm_base::tree::query::Agg;
 use wm_base::{Memory, Value};
 use wm_expr::ValueFault;
+use wm_syntax::query::Agg;
 
 fn is_null(value: &Value) -> bool
     ensures { result ≡ null value.now }

@@ -6,15 +6,15 @@ ghost use Rattle.std.specs.Map.{keys_of, lookup, values_of};
 ghost use Rattle.std.specs.Ordering.{is_eq};
 ghost use Rattle.wm_base.specs.declared.value.Value.{Value as OneValue};
 ghost use Rattle.wm_select.specs.Query.{in_groups};
-ghost use Rattle.wm_select.specs.Sorting.{left_to_right};
+ghost use Rattle.wm_ordering.specs.Sorting.{left_to_right};
 ghost use Rattle.wm_select.specs.Groups.{AreGrouped, rows_under};
 
 use crate::group_columns::GroupColumns;
 use crate::group_key::GroupKey;
 use indexmap::IndexMap;
 use std::alloc::Global;
-use wm_base::tree::column::Col;
 use wm_base::{Columns, Memory, Row, RowList};
+use wm_syntax::column::Col;
 
 /// The rows of each group, by the values that they have at the columns of GROUP BY.
 type Groups = IndexMap<GroupKey, RowList>;

@@ -4,14 +4,14 @@ ghost use Rattle.std.specs.Cmp.{partial_order_from_total, partial_equiv_from_equ
 ghost use Rattle.std.specs.Ordering.{as_partial_cmp, eq_by_cmp};
 ghost use Rattle.std.proofs.lemmas.Cmp.{eq_by_cmp_equiv};
 ghost use Rattle.wm_select.specs.Hashes.{all_writes, equal_writes, writes_of};
-ghost use Rattle.wm_select.specs.Orders.{left_to_right_total};
-ghost use Rattle.wm_select.specs.Sorting.{left_to_right};
+ghost use Rattle.wm_ordering.specs.Orders.{left_to_right_total};
+ghost use Rattle.wm_ordering.specs.Sorting.{left_to_right};
 
-use crate::order::{ascending, left_to_right};
 use std::cmp::Ordering;
 use std::hash::{Hash, Hasher};
 use std::marker::Model;
 use wm_base::{Value, Values};
+use wm_ordering::order::{ascending, left_to_right};
 
 /// The values that the rows of a group have at the columns of GROUP BY, in the order of groups: from left to right,
 /// each ascending.

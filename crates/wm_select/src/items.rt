@@ -3,21 +3,21 @@ ghost use Rattle.std.specs.Prelude.{◌≡◌, [], ◌∷◌, true, map, IfErr, 
 ghost use Rattle.std.specs.List.{zip};
 ghost use Rattle.std.specs.Result.{IsErrOf};
 ghost use Rattle.wm_base.specs.declared.row.Row.{Row as RowOf};
-ghost use Rattle.wm_base.specs.Trees.{Aggregate, Outs, Out as OutTree};
-ghost use Rattle.wm_base.specs.Views.{expr_view, item_view, outs_view, projection_view};
+ghost use Rattle.wm_syntax.specs.Trees.{Aggregate, Outs, Out as OutTree};
+ghost use Rattle.wm_syntax.specs.Views.{expr_view, item_view, outs_view, projection_view};
 ghost use Rattle.wm_spec.specs.Expressions.{value_of, has_no_empty_period};
-ghost use Rattle.wm_select.specs.Keys.{row_of, shown_by};
+ghost use Rattle.wm_ordering.specs.Keys.{row_of, shown_by};
 ghost use Rattle.wm_select.specs.Query.{all_there, first_row, item_value, projected, shown_of, item_lasts, projection_lasts};
 
 use crate::aggregates::aggregated;
-use crate::kept::blank;
-use crate::shown::{Shown, all_beside, row_values};
 use std::alloc::Global;
 use std::slice;
-use wm_base::tree::expr::Expr;
-use wm_base::tree::query::{Agg, Item, Out, Projection};
 use wm_base::{Columns, Memory, Row, RowList, Value, Values};
 use wm_expr::{ValueFault, value};
+use wm_joining::kept::blank;
+use wm_ordering::shown::{Shown, all_beside, row_values};
+use wm_syntax::expr::Expr;
+use wm_syntax::query::{Agg, Item, Out, Projection};
 
 /// The values of an expression on the rows.
 fn values_of(

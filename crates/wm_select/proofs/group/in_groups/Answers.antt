@@ -1,5 +1,5 @@
 use Rattle.std.proofs.Common.{List, ap, ◌∙◌}
-use Rattle.wm_base.specs.declared.tree.column.Col.{Col}
+use Rattle.wm_syntax.specs.declared.column.Col.{Col}
 use Rattle.wm_select.specs.Query.{in_groups}
 use Rattle.wm_select.proofs.GroupLemmas.{front_is}
 use Rattle.wm_select.proofs.group.in_groups.Goals as goal

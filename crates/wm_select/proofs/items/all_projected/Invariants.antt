@@ -1,6 +1,6 @@
 use Rattle.std.proofs.Common.{◌≡◌, ◌++◌, [], ◌∷◌, drop, map, option_map}
 use Rattle.wm_base.specs.declared.row.Row.{Row}
-use Rattle.wm_base.specs.Views.{projection_view}
+use Rattle.wm_syntax.specs.Views.{projection_view}
 use Rattle.wm_select.specs.Query.{all_there, projected}
 use Rattle.wm_select.proofs.items.all_projected.Given as goal
 

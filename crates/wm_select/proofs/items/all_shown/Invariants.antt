@@ -1,5 +1,5 @@
 use Rattle.std.proofs.Common.{◌≡◌, ◌++◌, drop, map, option_map}
-use Rattle.wm_base.specs.Views.{projection_view}
+use Rattle.wm_syntax.specs.Views.{projection_view}
 use Rattle.wm_select.specs.Query.{all_there, shown_of}
 use Rattle.wm_select.proofs.items.all_shown.Given as goal
 

@@ -1,6 +1,6 @@
 use Rattle.std.proofs.Common.{◌≡◌, ◌++◌, true, drop, map, option_map}
-use Rattle.wm_base.specs.Trees.{Outs, Out}
-use Rattle.wm_base.specs.Views.{outs_view}
+use Rattle.wm_syntax.specs.Trees.{Outs, Out}
+use Rattle.wm_syntax.specs.Views.{outs_view}
 use Rattle.wm_select.specs.Query.{all_there, item_value, projection_lasts}
 use Rattle.wm_select.proofs.items.item_values.Given as goal
 

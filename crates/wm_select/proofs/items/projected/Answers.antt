@@ -1,8 +1,8 @@
 use Rattle.std.proofs.Common.{List, map, ap, sym, ◌∙◌}
-use Rattle.wm_base.specs.Trees.{Out}
-use Rattle.wm_base.specs.Views.{outs_view, projection_view}
-use Rattle.wm_base.specs.declared.tree.query.Out.{Out as OutNode}
-use Rattle.wm_base.specs.declared.tree.query.Projection.{Projection as ProjectionNode}
+use Rattle.wm_syntax.specs.Trees.{Out}
+use Rattle.wm_syntax.specs.Views.{outs_view, projection_view}
+use Rattle.wm_syntax.specs.declared.query.Out.{Out as OutNode}
+use Rattle.wm_syntax.specs.declared.query.Projection.{Projection as ProjectionNode}
 use Rattle.wm_select.specs.Query.{all_there, item_value}
 use Rattle.wm_select.proofs.ItemLemmas.{projected_outs}
 use Rattle.wm_select.proofs.items.projected.Goals as goal

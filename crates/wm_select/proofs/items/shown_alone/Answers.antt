@@ -1,8 +1,8 @@
 use Rattle.std.proofs.Common.{◌≡◌, [], ◌∷◌, List, Some, map, sym, ap, ◌∙◌}
-use Rattle.wm_base.specs.Views.{projection_view}
+use Rattle.wm_syntax.specs.Views.{projection_view}
 use Rattle.wm_base.specs.declared.row.Row.{Row}
-use Rattle.wm_select.specs.declared.shown.Shown.{Shown}
-use Rattle.wm_select.specs.Keys.{row_of}
+use Rattle.wm_ordering.specs.declared.shown.Shown.{Shown}
+use Rattle.wm_ordering.specs.Keys.{row_of}
 use Rattle.wm_select.specs.Query.{all_there, projected}
 use Rattle.wm_select.proofs.ItemLemmas.{alone_shown}
 use Rattle.wm_select.proofs.items.shown_alone.Goals as goal

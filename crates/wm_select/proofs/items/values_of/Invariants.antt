@@ -1,6 +1,6 @@
 use Rattle.std.proofs.Common.{◌≡◌, ◌++◌, drop, map, option_map}
 use Rattle.wm_base.specs.declared.row.Row.{Row}
-use Rattle.wm_base.specs.Views.{expr_view}
+use Rattle.wm_syntax.specs.Views.{expr_view}
 use Rattle.wm_spec.specs.Expressions.{value_of}
 use Rattle.wm_select.specs.Query.{all_there}
 use Rattle.wm_select.proofs.items.values_of.Given as goal

@@ -1,0 +1,4 @@
+pub mod Sorting
+pub mod Orders
+pub mod RowOrder
+pub mod Keys

@@ -1,6 +1,0 @@
-use Rattle.std.proofs.Common.{◌≡◌, take}
-use Rattle.wm_select.specs.Query.{directions_of}
-use Rattle.wm_select.proofs.order_by.directions_of.Given as goal
-
-abbrev pub invariant-loop-order : goal.invariant-loop-order
-invariant-loop-order l = l.directions.items ≡ directions_of (take l.order-index l.orders)
