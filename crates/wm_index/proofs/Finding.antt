@@ -13,10 +13,11 @@ use Rattle.wm_spec.specs.declared.record.space.Space.{Space}
 use Rattle.wm_spec.specs.declared.record.version.Version.{Version}
 use Rattle.wm_spec.specs.declared.record.row.RowRecord.{RowRecord}
 use Rattle.wm_spec.specs.declared.record.stored.Stored.{Stored}
+use Rattle.wm_ids.specs.Ids.{head_of}
 use Rattle.wm_index.proofs.Listed.{sorted-listed}
 use Rattle.wm_index.proofs.Lists.{first-with, taken-with}
 use Rattle.wm_index.specs.Indexed.{IsIndexed, ids_at, listed}
-use Rattle.wm_index.specs.Sought.{Sought, TheCounters, SpaceAt, VersionAt, RowAt, is_sought, ids_with, first_of, head_of}
+use Rattle.wm_index.specs.Sought.{Sought, TheCounters, SpaceAt, VersionAt, RowAt, is_sought, ids_with, first_of}
 use Rattle.wm_index.specs.declared.index.Index.{Index}
 
 -- the records of a list

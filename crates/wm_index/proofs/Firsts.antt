@@ -1,17 +1,18 @@
 -- What is found or counted among records of a kind, told by the ids of what is sought.
-use Rattle.std.proofs.Common.{◌≡◌, ℕ, Bool, true, false, cond, not, ◌&&◌, ◌||◌, List, [], ◌∷◌, length, Option, Some, None, is_some, refl, sym, ap, ◌∙◌, arith}
+use Rattle.std.proofs.Common.{◌≡◌, Bool, true, false, cond, not, ◌&&◌, ◌||◌, List, [], ◌∷◌, length, Option, Some, None, is_some, refl, sym, ap, ◌∙◌, arith}
 use Rattle.std.proofs.lemmas.List.Sums.{length-filter}
 use Rattle.std.specs.List.{count_by, filter, filter_map, find, list_any}
 use Rattle.std.specs.Option.{option_map_or}
 use Rattle.wm_chunks.specs.Numbers.{Numbers}
 use Rattle.wm_spec.specs.declared.record.Record.{Record}
 use Rattle.wm_spec.specs.declared.record.stored.Stored.{Stored}
+use Rattle.wm_ids.specs.Ids.{is_nil}
 use Rattle.wm_index.proofs.Finding.{Tests, all_of, all_sought, filter-kind}
 use Rattle.wm_index.proofs.Leaves.{any-kind}
 use Rattle.wm_index.proofs.Using.{some_ids}
 use Rattle.wm_index.specs.Indexed.{IsIndexed, ids_at, listed}
 use Rattle.wm_index.specs.Kinds.{kind_at}
-use Rattle.wm_index.specs.Sought.{Sought, is_sought, ids_with, is_nil}
+use Rattle.wm_index.specs.Sought.{Sought, is_sought, ids_with}
 use Rattle.wm_index.specs.declared.index.Index.{Index}
 
 -- those of a kind that pass a test

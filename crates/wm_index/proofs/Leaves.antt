@@ -8,10 +8,12 @@ use Rattle.wm_spec.specs.declared.record.Record.{Record}
 use Rattle.wm_spec.specs.declared.record.Record.TheVariants as records
 use Rattle.wm_spec.specs.declared.record.stored.Stored.{Stored}
 use Rattle.wm_spec.specs.declared.record.version.Version.{Version}
+use Rattle.wm_ids.proofs.IdLists.{nil_told}
+use Rattle.wm_ids.specs.Ids.{is_nil}
 use Rattle.wm_index.proofs.Finding.{Tests, all_of}
-use Rattle.wm_index.proofs.Using.{nil_told, some_ids}
+use Rattle.wm_index.proofs.Using.{some_ids}
 use Rattle.wm_index.specs.Indexed.{IsIndexed, ids_at, listed}
-use Rattle.wm_index.specs.Sought.{VersionsUnder, is_sought, ids_with, is_nil}
+use Rattle.wm_index.specs.Sought.{VersionsUnder, is_sought, ids_with}
 use Rattle.wm_index.specs.declared.index.Index.{Index}
 
 -- ---- versions with none under them

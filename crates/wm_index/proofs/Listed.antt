@@ -9,8 +9,8 @@ use Rattle.std.specs.Ordering.{nat_cmp}
 use Rattle.wm_chunks.specs.Numbers.{Numbers}
 use Rattle.wm_spec.specs.Records.{record_at}
 use Rattle.wm_spec.specs.declared.record.Record.{Record}
+use Rattle.wm_ids.proofs.TableLists.{is_at-number}
 use Rattle.wm_index.proofs.Lists.{ids_of, record_at-none}
-use Rattle.wm_index.proofs.TableLists.{is_at-number}
 use Rattle.wm_index.specs.Indexed.{listed}
 
 ids-listed : (es : List (ℕ × Record)) → ids_of (listed es) ≡ keys_of es

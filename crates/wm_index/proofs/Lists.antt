@@ -9,7 +9,7 @@ use Rattle.std.specs.declared.cmp.Ordering.TheVariants.{Less}
 use Rattle.wm_spec.specs.Records.{record_at}
 use Rattle.wm_spec.specs.declared.record.Record.{Record}
 use Rattle.wm_spec.specs.declared.record.stored.Stored.{Stored}
-use Rattle.wm_index.proofs.IdLists.{less_than}
+use Rattle.wm_ids.proofs.IdLists.{less_than}
 use Rattle.wm_index.specs.Sought.{ids_with, first_of}
 
 -- ---- what is found

@@ -16,11 +16,11 @@ use Rattle.wm_spec.specs.declared.record.Record.{Record}
 use Rattle.wm_spec.specs.declared.record.Record.TheVariants as records
 use Rattle.wm_spec.specs.declared.record.hist.Hist.{Hist}
 use Rattle.wm_spec.specs.declared.record.stored.Stored.{Stored}
+use Rattle.wm_ids.proofs.IdLists.{less_than}
+use Rattle.wm_ids.proofs.TableLists.{is_at-number}
 use Rattle.wm_index.proofs.Finding.{Tests}
 use Rattle.wm_index.proofs.Firsts.{sought_kind}
-use Rattle.wm_index.proofs.IdLists.{less_than}
 use Rattle.wm_index.proofs.Listed.{same_test}
-use Rattle.wm_index.proofs.TableLists.{is_at-number}
 use Rattle.wm_index.specs.Hists.{AreByPosition, first_at, is_found_at, logged_on, placed_at, stands_at}
 use Rattle.wm_index.specs.Indexed.{IsIndexed, ids_at, listed}
 use Rattle.wm_index.specs.Kinds.{kind_at}

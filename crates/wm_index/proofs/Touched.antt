@@ -9,12 +9,13 @@ use Rattle.std.specs.Option.{option_map_or}
 use Rattle.std.specs.Ordering.{nat_cmp}
 use Rattle.std.specs.declared.cmp.Ordering.TheVariants.{Less}
 use Rattle.wm_chunks.specs.Numbers.{Numbers}
-use Rattle.wm_index.proofs.IdLists.{less_than}
+use Rattle.wm_ids.proofs.IdLists.{less_than}
+use Rattle.wm_ids.proofs.Since.{Place, is_since, is_there}
+use Rattle.wm_ids.specs.Ids.{ids_at_position, ids_since}
 use Rattle.wm_index.proofs.Listed.{sorted-listed}
 use Rattle.wm_index.proofs.Lists.{ids_of, record_at-none, record_at-here, record_at-away}
-use Rattle.wm_index.proofs.Since.{Place, is_since, is_there}
 use Rattle.wm_index.specs.Indexed.{IsIndexed, listed}
-use Rattle.wm_index.specs.Sought.{TouchAt, ids_at_position, ids_since, ids_with, is_sought, is_touch_since}
+use Rattle.wm_index.specs.Sought.{TouchAt, ids_with, is_sought, is_touch_since}
 use Rattle.wm_index.specs.declared.index.Index.{Index}
 use Rattle.wm_spec.specs.Records.{record_at}
 use Rattle.wm_spec.specs.declared.record.Record.{Record}

@@ -1,26 +1,21 @@
 -- Ids, and the records that they are of.
-use Rattle.std.proofs.Common.{◌≡◌, ℕ, ◌==◌, Bool, true, false, cond, not, ◌&&◌, ◌||◌, eqb, List, [], ◌∷◌, length, refl, sym, ap, ◌∙◌, arith}
-use Rattle.std.proofs.lemmas.Bool.{eq-eqb, ne_eqb, true≢false}
+use Rattle.std.proofs.Common.{◌≡◌, ℕ, ◌==◌, Bool, true, false, cond, not, ◌&&◌, ◌||◌, List, [], ◌∷◌, refl, sym, ap, ◌∙◌}
+use Rattle.std.proofs.lemmas.Bool.{eq-eqb, true≢false}
 use Rattle.wm_chunks.specs.Numbers.{Numbers}
 use Rattle.std.specs.Ordering.{is_eq}
 use Rattle.std.specs.List.{list_any}
-use Rattle.std.specs.List.Sorted.{IsStrictlySortedBy}
-use Rattle.std.specs.declared.cmp.Ordering.{Ordering}
 use Rattle.wm_base.specs.Key.{key_order}
 use Rattle.wm_base.specs.declared.value.Value.{Value}
 use Rattle.wm_spec.specs.declared.record.Record.{Record}
 use Rattle.wm_spec.specs.declared.record.stored.Stored.{Stored}
+use Rattle.wm_ids.specs.Ids.{is_nil}
+use Rattle.wm_ids.specs.Versioned.{ids_under, versions_on}
+use Rattle.wm_ids.specs.declared.versioned.Versioned.{Versioned}
 use Rattle.wm_index.proofs.Finding.{all_of}
 use Rattle.wm_index.specs.Indexed.{IsIndexed, listed}
-use Rattle.wm_index.specs.Sought.{PieceAt, is_piece_of, is_sought, ids_with, is_nil}
-use Rattle.wm_index.specs.Versioned.{ids_under, versions_on}
-use Rattle.wm_index.specs.declared.versioned.Versioned.{Versioned}
+use Rattle.wm_index.specs.Sought.{PieceAt, is_piece_of, is_sought, ids_with}
 use Rattle.wm_spec.specs.declared.record.Record.TheVariants as records
 use Rattle.wm_index.specs.declared.index.Index.{Index}
-
-pub nil_told : (xs : List ℕ) → eqb (length xs) 0 ≡ is_nil xs
-nil_told [] = refl
-nil_told (x ∷ xs) = ne_eqb (length (x ∷ xs)) 0 (λ e. omega (arith, e))
 
 -- ---- which keys
 
@@ -70,7 +65,3 @@ none_told kept x is table k none = by_test (list_any (is_piece_of table k) (all_
         ∙ sym (some_ids (is_sought (PieceAt table k found.0)) (listed kept.entries))
         ∙ ap (λ ids. not (is_nil ids)) (sym (is.told (PieceAt table k found.0)))
         ∙ ap (λ (es : List Versioned). not (is_nil (ids_under es found.0))) none))
-
-pub no_keys : {K : Type 0} (cmp : K → K → Ordering) → IsStrictlySortedBy cmp []
-unfolding IsStrictlySortedBy
-no_keys cmp = tt

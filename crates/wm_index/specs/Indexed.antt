@@ -5,9 +5,10 @@ use Rattle.std.specs.Ordering.{nat_cmp}
 use Rattle.wm_chunks.specs.Numbers.{AreOrdered, Numbers}
 use Rattle.wm_spec.specs.declared.record.Record.{Record}
 use Rattle.wm_spec.specs.declared.record.stored.Stored.{Stored}
-use Rattle.wm_index.specs.Sought.{Sought, TheCounters, Tables, Spaces, SpaceAt, VersionAt, VersionIn, VersionsUnder, SavepointsOf, SavepointAt, KeptAs, KeptUnder, BornAs, SeenUnder, RowAt, PieceAt, TouchesAt, MarksAt, PiecesIn, OwnedBy, MarksIn, TouchAt, TurnAt, HistsOn, is_sought, ids_with, placed, without, ids_among, ids_at_position, ids_in, number_ids, pair_order, piece_ids}
-use Rattle.wm_index.specs.Rows.{row_ids}
-use Rattle.wm_index.specs.Versioned.{AllNested, AllSpanned, ids_under, versions_on}
+use Rattle.wm_ids.specs.Ids.{placed, without, ids_among, ids_at_position, ids_in, number_ids, pair_order, piece_ids}
+use Rattle.wm_ids.specs.Rows.{row_ids}
+use Rattle.wm_ids.specs.Versioned.{AllNested, AllSpanned, ids_under, versions_on}
+use Rattle.wm_index.specs.Sought.{Sought, TheCounters, Tables, Spaces, SpaceAt, VersionAt, VersionIn, VersionsUnder, SavepointsOf, SavepointAt, KeptAs, KeptUnder, BornAs, SeenUnder, RowAt, PieceAt, TouchesAt, MarksAt, PiecesIn, OwnedBy, MarksIn, TouchAt, TurnAt, HistsOn, is_sought, ids_with}
 use Rattle.wm_index.specs.declared.index.Index.{Index}
 
 -- the ids that an index has of what is sought

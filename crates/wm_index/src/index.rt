@@ -1,22 +1,22 @@
 //! The ids of the records, by what is sought.
 
 ghost use Rattle.std.specs.Prelude.{◌≡◌, [], OnOk};
+ghost use Rattle.wm_ids.specs.Versioned.{AllNested, Gains, Loses};
 ghost use Rattle.wm_index.specs.Indexed.{Adds, Drops, IdsAscend, ids_at};
 ghost use Rattle.wm_index.specs.Sought.{Sought};
-ghost use Rattle.wm_index.specs.Versioned.{AllNested, Gains, Loses};
 ghost use Rattle.wm_spec.specs.declared.record.Record.TheVariants as records;
 
-use crate::ids::{add_id, drop_id};
-use crate::keyed::{
-    Ids, NumberIds, Positions, TableIds, add_at, add_in, add_on, add_to, drop_at, drop_from,
-    drop_in, drop_on,
-};
-use crate::rows::{RowIds, add_row, drop_row, no_rows};
-use crate::sets::{IdSets, add_among, drop_among};
-use crate::versioned::{PieceIds, add_piece_id, drop_piece_id};
 use std::alloc::Global;
 use std::collections::{BTreeMap, BTreeSet};
 use wm_base::Memory;
+use wm_ids::ids::{add_id, drop_id};
+use wm_ids::keyed::{
+    Ids, NumberIds, Positions, TableIds, add_at, add_in, add_on, add_to, drop_at, drop_from,
+    drop_in, drop_on,
+};
+use wm_ids::rows::{RowIds, add_row, drop_row, no_rows};
+use wm_ids::sets::{IdSets, add_among, drop_among};
+use wm_ids::versioned::{PieceIds, add_piece_id, drop_piece_id};
 use wm_spec::record::{Hist, PieceRecord, Record, Savepoint, Space, Trace, Turn, Version};
 
 /// Ids in ascending order: of the counters, the tables and the workspaces; of workspaces and versions by number; of
@@ -217,31 +217,22 @@ impl Index {
     }
 
     /// Drops the id of a record.
-    pub fn drop_record(&mut self, id: u64, dropped: &Record) -> Result<(), Memory>
+    pub fn drop_record(&mut self, id: u64, dropped: &Record)
         requires ascend { IdsAscend self.old }
         requires nested { AllNested self.old.pieces.entries }
-        ensures ids { OnOk result (Drops self.old self.new id dropped.now) }
-        ensures pieces { OnOk result (Loses self.old.pieces.entries self.new.pieces.entries id dropped.now) }
+        ensures ids { Drops self.old self.new id dropped.now }
+        ensures pieces { Loses self.old.pieces.entries self.new.pieces.entries id dropped.now }
     {
         match dropped {
-            Record::Counters(_) => {
-                drop_id(&mut self.counters, id);
-                Ok(())
-            }
-            Record::Table(_) => {
-                drop_id(&mut self.tables, id);
-                Ok(())
-            }
+            Record::Counters(_) => drop_id(&mut self.counters, id),
+            Record::Table(_) => drop_id(&mut self.tables, id),
             Record::Space(space) => self.drop_space(id, space.get()),
             Record::Version(version) => self.drop_version(id, version),
             Record::Savepoint(savepoint) => self.drop_savepoint(id, savepoint.get()),
-            Record::Row(row) => {
-                drop_row(&mut self.rows, row.stamp, id);
-                Ok(())
-            }
+            Record::Row(row) => drop_row(&mut self.rows, row.stamp, id),
             Record::Piece(piece) => self.drop_piece(id, piece),
             Record::Touch(touch) => self.drop_touch(id, touch),
-            Record::Lock(lock) => drop_among(&mut self.owned, lock.get().space, id),
+            Record::Lock(lock) => drop_among(&mut self.owned, &lock.get().space, id),
             Record::Hist(hist) => self.drop_hist(id, hist.get()),
             Record::Mark(mark) => self.drop_mark(id, mark),
             Record::Turn(turn) => self.drop_turn(id, turn),
@@ -249,110 +240,103 @@ impl Index {
     }
 
     /// Drops the id of a workspace.
-    fn drop_space(&mut self, id: u64, space: &Space) -> Result<(), Memory>
+    fn drop_space(&mut self, id: u64, space: &Space)
         requires { IdsAscend self.old }
-        ensures ids { OnOk result (Drops self.old self.new id (records.Space space.now)) }
-        ensures pieces { OnOk result (self.new.pieces.entries ≡ self.old.pieces.entries) }
+        ensures ids { Drops self.old self.new id (records.Space space.now) }
+        ensures pieces { self.new.pieces.entries ≡ self.old.pieces.entries }
     {
         drop_id(&mut self.all_spaces, id);
-        drop_among(&mut self.owned, space.number, id)?;
+        drop_among(&mut self.owned, &space.number, id);
         drop_from(&mut self.spaces, &space.number, id);
         if space.number == 0 {
-            return Ok(());
+            return;
         }
         drop_from(&mut self.born_as, &space.birth_version, id);
         drop_from(&mut self.seen_under, &space.base_version, id);
-        Ok(())
     }
 
     /// Drops the id of a version.
-    fn drop_version(&mut self, id: u64, version: &Version) -> Result<(), Memory>
+    fn drop_version(&mut self, id: u64, version: &Version)
         requires { IdsAscend self.old }
-        ensures ids { OnOk result (Drops self.old self.new id (records.Version version.now)) }
-        ensures pieces { OnOk result (self.new.pieces.entries ≡ self.old.pieces.entries) }
+        ensures ids { Drops self.old self.new id (records.Version version.now) }
+        ensures pieces { self.new.pieces.entries ≡ self.old.pieces.entries }
     {
-        drop_among(&mut self.owned, version.space, id)?;
+        drop_among(&mut self.owned, &version.space, id);
         drop_from(&mut self.versions, &version.number, id);
         drop_in(&mut self.versions_in, version.space, version.number, id);
         drop_from(&mut self.versions_under, &version.parent, id);
-        Ok(())
     }
 
     /// Drops the id of a savepoint.
-    fn drop_savepoint(&mut self, id: u64, savepoint: &Savepoint) -> Result<(), Memory>
+    fn drop_savepoint(&mut self, id: u64, savepoint: &Savepoint)
         requires { IdsAscend self.old }
-        ensures ids { OnOk result (Drops self.old self.new id (records.Savepoint savepoint.now)) }
-        ensures pieces { OnOk result (self.new.pieces.entries ≡ self.old.pieces.entries) }
+        ensures ids { Drops self.old self.new id (records.Savepoint savepoint.now) }
+        ensures pieces { self.new.pieces.entries ≡ self.old.pieces.entries }
     {
-        drop_among(&mut self.owned, savepoint.space, id)?;
+        drop_among(&mut self.owned, &savepoint.space, id);
         drop_from(&mut self.savepoints_of, &savepoint.space, id);
         drop_from(&mut self.savepoints, &savepoint.making, id);
         drop_from(&mut self.kept_as, &savepoint.version, id);
         if savepoint.space == 0 {
-            return Ok(());
+            return;
         }
         drop_from(&mut self.kept_under, &savepoint.base_version, id);
-        Ok(())
     }
 
     /// Drops the id of a piece.
-    fn drop_piece(&mut self, id: u64, piece: &PieceRecord) -> Result<(), Memory>
+    fn drop_piece(&mut self, id: u64, piece: &PieceRecord)
         requires ascend { IdsAscend self.old }
         requires nested { AllNested self.old.pieces.entries }
-        ensures ids { OnOk result (Drops self.old self.new id (records.Piece piece.now)) }
-        ensures pieces { OnOk result (Loses self.old.pieces.entries self.new.pieces.entries id (records.Piece piece.now)) }
+        ensures ids { Drops self.old self.new id (records.Piece piece.now) }
+        ensures pieces { Loses self.old.pieces.entries self.new.pieces.entries id (records.Piece piece.now) }
     {
-        drop_among(&mut self.pieces_in, piece.version, id)?;
+        drop_among(&mut self.pieces_in, &piece.version, id);
         drop_piece_id(&mut self.pieces, id, piece);
-        Ok(())
     }
 
     /// Drops the id of a touch.
-    fn drop_touch(&mut self, id: u64, touch: &Trace) -> Result<(), Memory>
+    fn drop_touch(&mut self, id: u64, touch: &Trace)
         requires { IdsAscend self.old }
-        ensures ids { OnOk result (Drops self.old self.new id (records.Touch touch.now)) }
-        ensures pieces { OnOk result (self.new.pieces.entries ≡ self.old.pieces.entries) }
+        ensures ids { Drops self.old self.new id (records.Touch touch.now) }
+        ensures pieces { self.new.pieces.entries ≡ self.old.pieces.entries }
     {
-        drop_among(&mut self.owned, touch.space, id)?;
+        drop_among(&mut self.owned, &touch.space, id);
         drop_at(&mut self.touched_at, touch.space, touch.position, id);
         let cells = &touch.cells;
         drop_on(&mut self.touches, cells.table, &cells.key, id);
-        Ok(())
     }
 
     /// Drops the id of a mark.
-    fn drop_mark(&mut self, id: u64, mark: &Trace) -> Result<(), Memory>
+    fn drop_mark(&mut self, id: u64, mark: &Trace)
         requires { IdsAscend self.old }
-        ensures ids { OnOk result (Drops self.old self.new id (records.Mark mark.now)) }
-        ensures pieces { OnOk result (self.new.pieces.entries ≡ self.old.pieces.entries) }
+        ensures ids { Drops self.old self.new id (records.Mark mark.now) }
+        ensures pieces { self.new.pieces.entries ≡ self.old.pieces.entries }
     {
-        drop_among(&mut self.owned, mark.space, id)?;
+        drop_among(&mut self.owned, &mark.space, id);
         drop_from(&mut self.marks_in, &mark.space, id);
         let cells = &mark.cells;
         drop_on(&mut self.marks, cells.table, &cells.key, id);
-        Ok(())
     }
 
     /// Drops the id of a turn.
-    fn drop_turn(&mut self, id: u64, turn: &Turn) -> Result<(), Memory>
+    fn drop_turn(&mut self, id: u64, turn: &Turn)
         requires { IdsAscend self.old }
-        ensures ids { OnOk result (Drops self.old self.new id (records.Turn turn.now)) }
-        ensures pieces { OnOk result (self.new.pieces.entries ≡ self.old.pieces.entries) }
+        ensures ids { Drops self.old self.new id (records.Turn turn.now) }
+        ensures pieces { self.new.pieces.entries ≡ self.old.pieces.entries }
     {
-        drop_among(&mut self.owned, turn.space, id)?;
+        drop_among(&mut self.owned, &turn.space, id);
         let number = (turn.space, turn.rebase);
         drop_from(&mut self.turns_at, &number, id);
-        Ok(())
     }
 
     /// Drops the id of an entry of a log.
-    fn drop_hist(&mut self, id: u64, hist: &Hist) -> Result<(), Memory>
+    fn drop_hist(&mut self, id: u64, hist: &Hist)
         requires { IdsAscend self.old }
-        ensures ids { OnOk result (Drops self.old self.new id (records.Hist hist.now)) }
-        ensures pieces { OnOk result (self.new.pieces.entries ≡ self.old.pieces.entries) }
+        ensures ids { Drops self.old self.new id (records.Hist hist.now) }
+        ensures pieces { self.new.pieces.entries ≡ self.old.pieces.entries }
     {
-        drop_among(&mut self.owned, hist.space, id)?;
+        drop_among(&mut self.owned, &hist.space, id);
         let log = (hist.space, hist.cells.table);
-        drop_among(&mut self.hists_on, log, id)
+        drop_among(&mut self.hists_on, &log, id);
     }
 }

@@ -4,9 +4,9 @@ ghost use Rattle.std.specs.Prelude.{◌≡◌, ◌<◌, ◌≤◌, ◌+◌, ◌^
 ghost use Rattle.std.specs.Option.{option_and_then, option_copied};
 ghost use Rattle.wm_graph.specs.Parts.{as_table};
 ghost use Rattle.wm_spec.specs.Records.{record_at};
+ghost use Rattle.wm_ids.specs.Versioned.{AllNested, GainsAny, LosesAny};
 ghost use Rattle.wm_index.specs.Indexed.{ids_at, listed, IdsAscend};
 ghost use Rattle.wm_index.specs.Sought.{Sought, is_sought, ids_less, ids_more, first_of};
-ghost use Rattle.wm_index.specs.Versioned.{AllNested, GainsAny, LosesAny};
 
 use crate::index::Index;
 use crate::kinds::table_of;
@@ -48,19 +48,18 @@ pub fn next_id(kept: &Kept) -> Option<u64>
     }
 }
 
-/// Drops the id of a record that goes, and tells whether that is a table.
-pub fn drop_old(kept: &Kept, index: &mut Index, id: u64) -> Result<bool, Memory>
+/// Drops the id of a record that goes, where one stood there, and tells whether that is a table.
+pub fn drop_old(index: &mut Index, id: u64, stood: Option<&Record>) -> bool
     requires ascend { IdsAscend index.old }
     requires nested { AllNested index.old.pieces.entries }
-    ensures dropped { OnOk result ((q : Sought) → ids_at index.new q ≡ ids_less (is_sought q) id (record_at (listed kept.now.entries) id) (ids_at index.old q)) }
-    ensures pieces { OnOk result (LosesAny index.old.pieces.entries index.new.pieces.entries id (record_at (listed kept.now.entries) id)) }
-    ensures table { IfOk result (λ was. was ≡ is_some (option_and_then as_table (record_at (listed kept.now.entries) id))) }
+    ensures dropped { (q : Sought) → ids_at index.new q ≡ ids_less (is_sought q) id (option_copied stood.entry) (ids_at index.old q) }
+    ensures pieces { LosesAny index.old.pieces.entries index.new.pieces.entries id (option_copied stood.entry) }
+    ensures table { result ≡ is_some (option_and_then as_table (option_copied stood.entry)) }
 {
-    let found = at(kept, id);
-    if let Some(old) = found {
-        index.drop_record(id, old)?;
+    if let Some(old) = stood {
+        index.drop_record(id, old);
     }
-    Ok(table_of(found).is_some())
+    table_of(stood).is_some()
 }
 
 /// Adds the id of a record that comes, and tells whether that is a table.

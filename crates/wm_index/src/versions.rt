@@ -6,9 +6,9 @@ ghost use Rattle.wm_graph.specs.Parts as parts;
 ghost use Rattle.wm_index.specs.Indexed.{IsIndexed, listed};
 
 use crate::index::Index;
-use crate::keyed::ids_of;
 use crate::kinds::version_of;
 use crate::records::{Kept, first};
+use wm_ids::keyed::ids_of;
 use wm_spec::record::Version;
 
 /// The version of a number.

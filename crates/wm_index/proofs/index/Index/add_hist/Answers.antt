@@ -1,6 +1,6 @@
 use Rattle.std.proofs.lemmas.Result.{on_ok_weaker}
-use Rattle.wm_index.proofs.Pairs.{hist_changed}
-use Rattle.wm_index.specs.Sought.{placed}
+use Rattle.wm_ids.specs.Ids.{placed}
+use Rattle.wm_index.proofs.Changing.{hist_changed}
 use Rattle.wm_index.proofs.index.Index.add_hist.Goals as goal
 
 pub returns-clause-ids : goal.returns-clause-ids

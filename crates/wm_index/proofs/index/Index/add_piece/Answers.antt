@@ -1,6 +1,8 @@
 use Rattle.std.proofs.lemmas.Result.{on_ok_weaker}
-use Rattle.wm_index.proofs.Versioning.{more_ids, piece_changed}
-use Rattle.wm_index.specs.Sought.{PieceAt, placed}
+use Rattle.wm_ids.proofs.Versioning.{more_ids}
+use Rattle.wm_ids.specs.Ids.{placed}
+use Rattle.wm_index.proofs.Changing.{piece_changed}
+use Rattle.wm_index.specs.Sought.{PieceAt}
 use Rattle.wm_index.proofs.index.Index.add_piece.Goals as goal
 
 pub add_piece_id-requires-clause-ascend : goal.add_piece_id-requires-clause-ascend

@@ -1,6 +1,7 @@
 use Rattle.std.proofs.lemmas.Result.{on_ok_weaker}
-use Rattle.wm_index.proofs.Pairs.{touch_changed}
-use Rattle.wm_index.specs.Sought.{TouchesAt, placed}
+use Rattle.wm_ids.specs.Ids.{placed}
+use Rattle.wm_index.proofs.Changing.{touch_changed}
+use Rattle.wm_index.specs.Sought.{TouchesAt}
 use Rattle.wm_index.proofs.index.Index.add_touch.Goals as goal
 
 pub add_on-requires : goal.add_on-requires

@@ -1,6 +1,7 @@
 use Rattle.std.proofs.lemmas.Result.{on_ok_weaker}
-use Rattle.wm_index.proofs.Pairs.{turn_changed}
-use Rattle.wm_index.specs.Sought.{TurnAt, placed}
+use Rattle.wm_ids.specs.Ids.{placed}
+use Rattle.wm_index.proofs.Changing.{turn_changed}
+use Rattle.wm_index.specs.Sought.{TurnAt}
 use Rattle.wm_index.proofs.index.Index.add_turn.Goals as goal
 
 pub add_to-requires : goal.add_to-requires

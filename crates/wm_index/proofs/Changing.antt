@@ -1,43 +1,21 @@
--- Ids by pairs of numbers.
-use Rattle.std.proofs.Common.{◌≡◌, ℕ, ◌==◌, ◌&&◌, Bool, true, false, cond, List, refl, sym, ap, ap₂, ◌∙◌}
-use Rattle.std.proofs.lemmas.Map.Lookups.{exact_pairs, exact_unsigned}
+-- The ids of what is sought, when those under the keys of a record are changed.
+use Rattle.std.proofs.Common.{◌≡◌, ℕ, ◌==◌, ◌&&◌, cond, List, refl, ◌∙◌}
 use Rattle.std.specs.BTreeMap.{BTreeMap}
 use Rattle.std.specs.BTreeSet.{BTreeSet}
-use Rattle.std.specs.Cmp.{Equal-is, tied_then}
 use Rattle.std.specs.Ordering.{nat_cmp, is_eq}
-use Rattle.wm_spec.specs.declared.record.Record.TheVariants as records
-use Rattle.wm_spec.specs.declared.record.hist.Hist.{Hist}
-use Rattle.wm_spec.specs.declared.record.trace.Trace.{Trace}
-use Rattle.wm_spec.specs.declared.record.turn.Turn.{Turn}
 use Rattle.wm_base.specs.Key.{key_order}
 use Rattle.wm_base.specs.declared.value.Value.{Value}
-use Rattle.wm_index.proofs.TableLists.{is_at-number}
+use Rattle.wm_ids.proofs.Pairs.{changed_number, changed_pair}
+use Rattle.wm_ids.specs.Ids.{Keyed, ids_among, ids_at_position, ids_in, pair_order, piece_ids}
+use Rattle.wm_ids.specs.Versioned.{Versions, ids_under, versions_on}
 use Rattle.wm_index.specs.Indexed.{ids_at}
-use Rattle.wm_index.specs.Sought.{Sought, OwnedBy, TouchAt, TouchesAt, TurnAt, HistsOn, Keyed, ids_among, ids_at_position, ids_in, is_sought, pair_order, piece_ids}
+use Rattle.wm_index.specs.Sought.{Sought, OwnedBy, TouchAt, TouchesAt, TurnAt, HistsOn, is_sought, PieceAt, PiecesIn}
 use Rattle.wm_index.specs.declared.index.Index.{Index}
-
--- a test for `Equal` is a test for the same numbers
-pub pair_tied : (a b : ℕ × ℕ) → is_eq (pair_order a b) ≡ ((a.0 == b.0) && (a.1 == b.1))
-pair_tied a b = sym (tied_then (nat_cmp a.0 b.0) (nat_cmp a.1 b.1)) ∙ ap₂ (λ s t. s && t) (is_at-number a.0 b.0) (is_at-number a.1 b.1)
-
--- pairs that are tied are one
-pub pair_same : (a b : ℕ × ℕ) → is_eq (pair_order a b) ≡ true → a ≡ b
-pair_same a b tie = exact_pairs nat_cmp nat_cmp exact_unsigned exact_unsigned a b ((Equal-is (pair_order a b)).0 tie)
-
--- what is changed under a key is what is under the key that is the same
-changed_pair : (change : List ℕ → List ℕ) (f : ℕ × ℕ → List ℕ) (key q : ℕ × ℕ) → cond (is_eq (pair_order key q)) (change (f key)) (f q) ≡ cond ((key.0 == q.0) && (key.1 == q.1)) (change (f q)) (f q)
-changed_pair change f key q = by_test (is_eq (pair_order key q)) refl ∙ ap (λ b. cond b (change (f q)) (f q)) (pair_tied key q)
-  where
-    by_test : (b : Bool) → is_eq (pair_order key q) ≡ b → cond b (change (f key)) (f q) ≡ cond b (change (f q)) (f q)
-    by_test true tie = ap (λ k. change (f k)) (pair_same key q tie)
-    by_test false apart = refl
-
-pub changed_number : (change : List ℕ → List ℕ) (f : ℕ → List ℕ) (m n : ℕ) → cond (is_eq (nat_cmp m n)) (change (f m)) (f n) ≡ cond (m == n) (change (f n)) (f n)
-changed_number change f m n = by_test (is_eq (nat_cmp m n)) refl ∙ ap (λ b. cond b (change (f n)) (f n)) (is_at-number m n)
-  where
-    by_test : (b : Bool) → is_eq (nat_cmp m n) ≡ b → cond b (change (f m)) (f n) ≡ cond b (change (f n)) (f n)
-    by_test true tie = ap (λ k. change (f k)) (exact_unsigned m n ((Equal-is (nat_cmp m n)).0 tie))
-    by_test false apart = refl
+use Rattle.wm_spec.specs.declared.record.Record.TheVariants as records
+use Rattle.wm_spec.specs.declared.record.hist.Hist.{Hist}
+use Rattle.wm_spec.specs.declared.record.piece.PieceRecord.{PieceRecord}
+use Rattle.wm_spec.specs.declared.record.trace.Trace.{Trace}
+use Rattle.wm_spec.specs.declared.record.turn.Turn.{Turn}
 
 -- the ids under the keys of a turn are changed
 pub turn_changed : (change : List ℕ → List ℕ) (old : Index) (owned : BTreeMap ℕ (BTreeSet ℕ)) (turns : BTreeMap (ℕ × ℕ) (List ℕ)) (r : Turn)
@@ -67,3 +45,12 @@ touch_changed change old owned touched touches r by_space by_position by_key (Ow
 touch_changed change old owned touched touches r by_space by_position by_key (TouchAt space position) = by_position (space, position)
 touch_changed change old owned touched touches r by_space by_position by_key (TouchesAt table key) = by_key table key
 touch_changed change old owned touched touches r by_space by_position by_key _ = refl
+
+-- the ids under the keys of a piece are changed
+pub piece_changed : (change : List ℕ → List ℕ) (old : Index) (owned : BTreeMap ℕ (BTreeSet ℕ)) (pieces : BTreeMap ℕ Versions) (r : PieceRecord)
+    → ((q : ℕ) → ids_among nat_cmp owned.entries q ≡ cond (is_eq (nat_cmp r.version q)) (change (ids_among nat_cmp old.pieces_in.entries r.version)) (ids_among nat_cmp old.pieces_in.entries q))
+    → ((t : ℕ) (k : List Value) (v : ℕ) → ids_under (versions_on pieces.entries t k) v ≡ cond ((r.cells.table == t) && (is_eq (key_order r.cells.key k) && (r.version == v))) (change (ids_under (versions_on old.pieces.entries t k) v)) (ids_under (versions_on old.pieces.entries t k) v))
+    → (q : Sought) → ids_at (record old { pieces = pieces; pieces_in = owned }) q ≡ cond (is_sought q (records.Piece r)) (change (ids_at old q)) (ids_at old q)
+piece_changed change old owned pieces r by_version by_key (PieceAt table key version) = by_key table key version
+piece_changed change old owned pieces r by_version by_key (PiecesIn version) = by_version version ∙ changed_number change (ids_among nat_cmp old.pieces_in.entries) r.version version
+piece_changed change old owned pieces r by_version by_key _ = refl
