@@ -1,7 +1,6 @@
 -- The number of the workspace and the making of the savepoint that come next are known by their bounds.
 use Rattle.std.proofs.Common.{◌≡◌, ℕ, zero, suc, ◌+◌, ◌≤◌, ◌==◌, ◌||◌, nat_lt, max, Bool, true, false, cond, List, [], ◌∷◌, Some, is_some, refl, sym, arith}
 use Rattle.std.proofs.lemmas.Bool.{and_parts, true≢false}
-use Rattle.std.proofs.Math.Nat.{le-max_left}
 use Rattle.std.specs.List.{list_all, list_any}
 use Rattle.wm_graph.specs.Parts.{space_of}
 use Rattle.wm_spec.specs.declared.record.savepoint.Savepoint.{Savepoint}

@@ -11,12 +11,13 @@ use Rattle.wm_spec.specs.declared.record.Record.{Record}
 use Rattle.wm_spec.specs.declared.record.Record.TheVariants as records
 use Rattle.wm_spec.specs.declared.record.version.Version.{Version}
 use Rattle.wm_state.specs.Standing.{latest}
+use Rattle.wm_ids.proofs.Lasts.{LastOf, has_ids, last-same, last_is}
+use Rattle.wm_ids.specs.Ids.{keyed_at, last_used}
 use Rattle.wm_index.proofs.Finding.{Tests, all_of}
 use Rattle.wm_index.proofs.Firsts.{any_sought}
-use Rattle.wm_index.proofs.Lasts.{LastOf, has_ids, last-same, last_is}
 use Rattle.wm_index.specs.Indexed.{IsIndexed, listed}
 use Rattle.wm_index.specs.Kinds.{greatest}
-use Rattle.wm_index.specs.Sought.{VersionIn, is_sought, keyed_at, last_used}
+use Rattle.wm_index.specs.Sought.{VersionIn, is_sought}
 use Rattle.wm_index.specs.declared.index.Index.{Index}
 use Rattle.wm_records.proofs.Newest.{latest_in-greatest}
 

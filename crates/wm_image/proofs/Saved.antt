@@ -20,13 +20,14 @@ use Rattle.wm_spec.specs.declared.record.stored.Stored.{Stored}
 use Rattle.wm_state.specs.Standing.{by_making, place_making, saved_as, saved_in}
 use Rattle.wm_state.proofs.Apart.{ruled}
 use Rattle.wm_state.proofs.SavedAs.{names-apart}
+use Rattle.wm_ids.proofs.Lasts.{LastOf, has_ids, last-same, last_told}
 use Rattle.wm_index.proofs.Finding.{Tests}
 use Rattle.wm_index.proofs.Firsts.{sought_kind, any_sought, count_sought, find-filter}
-use Rattle.wm_index.proofs.Lasts.{LastOf, has_ids, last-same, last_told}
 use Rattle.wm_index.specs.Indexed.{IsIndexed, ids_at, listed}
 use Rattle.wm_index.specs.Kinds.{after, kind_at}
 use Rattle.wm_image.specs.Shown.{is_saved_behind, rests_on}
-use Rattle.wm_index.specs.Sought.{SavepointAt, SavepointsOf, KeptAs, KeptUnder, is_sought, last_used}
+use Rattle.wm_ids.specs.Ids.{last_used}
+use Rattle.wm_index.specs.Sought.{SavepointAt, SavepointsOf, KeptAs, KeptUnder, is_sought}
 use Rattle.wm_index.specs.declared.index.Index.{Index}
 
 -- ---- the tests

@@ -14,15 +14,16 @@ use Rattle.wm_spec.specs.declared.record.space.Space.{Space}
 use Rattle.wm_spec.specs.declared.record.stored.Stored.{Stored}
 use Rattle.wm_state.specs.Effects.{IsFree}
 use Rattle.wm_state.proofs.Named.{saved_space, space_number}
+use Rattle.wm_ids.proofs.Lasts.{LastOf, has_ids, last-same, last_told}
 use Rattle.wm_index.proofs.Finding.{Tests, space_test}
 use Rattle.wm_index.proofs.Firsts.{sought_kind, any_sought, count_sought, filter_all, count_all}
-use Rattle.wm_index.proofs.Lasts.{LastOf, has_ids, last-same, last_told}
 use Rattle.wm_image.proofs.Saved.{kept_test, rest_test}
-use Rattle.wm_index.proofs.Using.{nil_told}
+use Rattle.wm_ids.proofs.IdLists.{nil_told}
 use Rattle.wm_index.specs.Indexed.{IsIndexed, ids_at, listed}
 use Rattle.wm_index.specs.Kinds.{kind_at}
 use Rattle.wm_image.specs.Shown.{names, rests_on}
-use Rattle.wm_index.specs.Sought.{Spaces, SpaceAt, KeptAs, KeptUnder, BornAs, SeenUnder, is_nil, is_sought, last_used}
+use Rattle.wm_ids.specs.Ids.{is_nil, last_used}
+use Rattle.wm_index.specs.Sought.{Spaces, SpaceAt, KeptAs, KeptUnder, BornAs, SeenUnder, is_sought}
 use Rattle.wm_index.specs.declared.index.Index.{Index}
 
 -- ---- the tests

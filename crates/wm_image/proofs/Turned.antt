@@ -3,9 +3,9 @@ use Rattle.std.proofs.Common.{◌≡◌, ℕ, eqb, not, List, length, refl, ap, 
 use Rattle.std.specs.List.{list_any}
 use Rattle.wm_chunks.specs.Numbers.{Numbers}
 use Rattle.wm_graph.specs.Parts.{parts_of, as_turn}
+use Rattle.wm_ids.proofs.IdLists.{nil_told}
 use Rattle.wm_index.proofs.Finding.{Tests}
 use Rattle.wm_index.proofs.Firsts.{any_sought}
-use Rattle.wm_index.proofs.Using.{nil_told}
 use Rattle.wm_index.specs.Indexed.{IsIndexed, ids_at, listed}
 use Rattle.wm_index.specs.Sought.{TurnAt, is_sought}
 use Rattle.wm_index.specs.declared.index.Index.{Index}

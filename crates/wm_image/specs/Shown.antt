@@ -1,16 +1,16 @@
 -- What is read of the records of some ids.
-use Rattle.std.specs.Prelude.{ℕ, ◌≡◌, Bool, false, nat_eq, not, ◌&&◌, ◌||◌, ◌==◌, nat_le, nat_lt, if◌then◌else◌, List, [], ◌∷◌, map, Option, Some, None}
+use Rattle.std.specs.Prelude.{ℕ, ◌≡◌, Bool, false, not, ◌&&◌, ◌||◌, ◌==◌, nat_le, nat_lt, if◌then◌else◌, List, [], ◌∷◌, map, Option, Some, None}
 use Rattle.std.specs.Bool.{then_some}
-use Rattle.std.specs.List.{filter, list_any}
+use Rattle.std.specs.List.{list_any}
 use Rattle.std.specs.Option.{option_or}
 use Rattle.std.specs.declared.alloc.Global.{Global}
 use Rattle.std.specs.declared.vec.Vec.{Vec}
 use Rattle.wm_base.specs.declared.value.Value.{Value}
 use Rattle.wm_graph.specs.Parts.{as_piece, parts_of}
-use Rattle.wm_index.specs.declared.versioned.Versioned.{Versioned}
+use Rattle.wm_ids.specs.declared.versioned.Versioned.{Versioned}
+use Rattle.wm_ids.specs.Versioned.{AreNested, AreSpanned, ids_under, versions_in}
 use Rattle.wm_index.specs.Kinds.{kind_at}
 use Rattle.wm_index.specs.Sought.{is_piece_of}
-use Rattle.wm_index.specs.Versioned.{AreNested, AreSpanned, ids_under, versions_in}
 use Rattle.wm_period.specs.Pieces.{Held}
 use Rattle.wm_spec.specs.declared.record.piece.PieceRecord.{PieceRecord}
 use Rattle.wm_spec.specs.declared.record.savepoint.Savepoint.{Savepoint}
@@ -23,24 +23,10 @@ pub use Rattle.wm_state.specs.Firsts.{is_child_from, is_saved_behind}
 abbrev pub has_at : PieceRecord → ℕ → ℕ → Bool
 has_at x version time = (x.version == version) && (nat_le x.cells.from time && nat_lt time x.cells.till)
 
--- what a piece says of a moment, where it is a version's own and covers it
-abbrev pub held_here : Option PieceRecord → ℕ → ℕ → Option Held
-held_here None version time = None
-held_here (Some x) version time = then_some (has_at x version time) (held_by x)
-
 -- what a version has at a moment among pieces of one table and key
 abbrev pub first_held : List PieceRecord → ℕ → ℕ → Option Held
 first_held [] version time = None
 first_held (x ∷ xs) version time = option_or (then_some (has_at x version time) (held_by x)) (first_held xs version time)
-
--- what the first of some versions has that has anything
-abbrev pub along : (ℕ → Option Held) → List ℕ → Option Held
-along f [] = None
-along f (v ∷ vs) = option_or (f v) (along f vs)
-
--- what an entry of versions with ids of pieces has at a moment, where its version stands on a path
-abbrev pub entry_held : List Stored → List ℕ → Versioned → ℕ → Option Held
-entry_held ss path e time = if list_any (nat_eq e.version) path then first_held (kind_at as_piece ss e.ids) e.version time else None
 
 -- versions have for a key of a table what is stored for it
 abbrev pub HoldKey : List Stored → ℕ → List Value → List Versioned → Type 0
@@ -52,10 +38,6 @@ pub record AreKeysOf (ss : List Stored) (table : ℕ) (keys : List (List Value �
   pub spanned : (k : List Value) → AreSpanned ss (versions_in keys k)
   pub held : (k : List Value) → HoldKey ss table k (versions_in keys k)
   pub whole : (k : List Value) → versions_in keys k ≡ [] → list_any (is_piece_of table k) (map (λ (s : Stored). s.record) ss) ≡ false
-
--- those of versions that are not above a number
-abbrev pub up_to : ℕ → List Versioned → List Versioned
-up_to top es = filter (λ (e : Versioned). nat_le e.version top) es
 
 -- a savepoint of a workspace with a parent sees the version under its workspace's own
 abbrev pub rests_on : ℕ → Savepoint → Bool

@@ -6,15 +6,14 @@ ghost use Rattle.std.specs.Option.{option_and_then, option_copied, option_map, o
 ghost use Rattle.std.specs.Str.{bytes_eq};
 ghost use Rattle.wm_spec.specs.declared.record.table.Table.{Table as OneTable};
 ghost use Rattle.wm_spec.specs.declared.record.version.Version.{Version as OneVersion};
-ghost use Rattle.wm_base.specs.declared.instant.TheConstants.{END};
-ghost use Rattle.wm_period.specs.Pieces.{held_at};
 ghost use Rattle.wm_graph.specs.Parts.{as_counters, as_hist, as_space, as_table, parts_of, row_of, space_of, table_of, version_of};
 ghost use Rattle.wm_graph.specs.Rules.{keep_rules};
 ghost use Rattle.wm_spec.specs.Records.{AreRecords, record_at};
+ghost use Rattle.wm_ids.specs.Ids.{set_found};
+ghost use Rattle.wm_ids.specs.Versioned.{AreNested, AreSpanned};
 ghost use Rattle.wm_index.specs.Hists.{AreByPosition, logged_on};
 ghost use Rattle.wm_index.specs.Kinds.{kind_at};
-ghost use Rattle.wm_index.specs.Sought.{MarksAt, MarksIn, OwnedBy, PieceAt, PiecesIn, TouchesAt, ids_with, is_sought, is_touch_since, set_found};
-ghost use Rattle.wm_index.specs.Versioned.{AreNested, AreSpanned};
+ghost use Rattle.wm_index.specs.Sought.{MarksAt, MarksIn, OwnedBy, PieceAt, PiecesIn, TouchesAt, ids_with, is_sought, is_touch_since};
 ghost use Rattle.wm_state.specs.ById.{Ascend, applied, by_id};
 ghost use Rattle.wm_records.specs.Hops.{IsHop};
 ghost use Rattle.wm_image.specs.Shown.{AreKeysOf, HoldKey, is_child_from, is_saved_behind, names, rests_on};
@@ -23,11 +22,10 @@ ghost use Rattle.wm_spec.specs.declared.record.space.Space.{Space as OneSpace};
 ghost use Rattle.wm_state.specs.Drafts.{is_turn};
 ghost use Rattle.wm_state.specs.Effects.{IsFree};
 ghost use Rattle.wm_state.specs.Firsts.{first_recorded};
-ghost use Rattle.wm_state.specs.Standing.{by_number, latest, saved_as, saved_in, seen, space_after};
+ghost use Rattle.wm_state.specs.Standing.{by_number, latest, saved_as, saved_in, space_after};
 ghost use Rattle.wm_state.specs.State.{next_table};
 
 use crate::children::{Behind, any_behind, least_child};
-use crate::laying::lay_key;
 use crate::load::{ImageFault, put_with_catalog, sorted};
 use crate::shown::latest_of;
 use std::alloc::Global;
@@ -36,19 +34,18 @@ use std::marker::Model;
 use wm_base::{Key, Memory};
 use wm_catalog::Catalog;
 use wm_chunks::NumberMap;
+use wm_ids::ids::{are_empty, first_id};
+use wm_ids::keyed::{ids_of, ids_on, ids_since, last_key};
+use wm_ids::rows::ids_of_stamp;
+use wm_ids::versioned::{KeyVersions, Versioned, ids_of_version, versions_of_key};
 use wm_index::hists::ids_by_position;
-use wm_index::ids::{are_empty, first_id};
 use wm_index::index::Index;
-use wm_index::keyed::{ids_of, ids_on, ids_since, last_key};
 use wm_index::kinds;
 use wm_index::records::{Kept, at, first, next_id};
-use wm_index::rows::ids_of_stamp;
 use wm_index::savepoints::{making_after, savepoint_in, savepoint_of_name};
 use wm_index::spaces::{number_after, space_of_name};
 use wm_index::tables::{id_named, table_of_number};
-use wm_index::versioned::{KeyVersions, Versioned, ids_of_version, versions_of_key};
 use wm_index::versions::version_at;
-use wm_period::Pieces;
 use wm_records::hops::{Hop, Hops};
 use wm_records::records::{apply_all, clear_all};
 use wm_records::tables::after_last;
@@ -312,7 +309,7 @@ impl Image {
     }
 
     /// The ways down from a version, where they are known.
-    pub(crate) fn hop(&self, number: u64) -> Option<Hop>
+    pub fn hop(&self, number: u64) -> Option<Hop>
         ensures { IfSome result (λ hop. IsHop (parts_of self.now).versions number hop) }
     {
         self.hops.hop(number)
@@ -346,24 +343,8 @@ impl Image {
         )
     }
 
-    /// All that a version has for a key of a table.
-    pub fn shown(
-        &self,
-        alloc: Global,
-        version: u64,
-        table: u16,
-        key: &Key,
-    ) -> Result<Pieces, Memory>
-        requires { keep_rules (parts_of self.now) ≡ true }
-        ensures { IfOk result (λ pieces. (t : ℕ) → t < END → held_at pieces t ≡ seen (parts_of self.now) version (record { table = table; key = key.now; time = t })) }
-    {
-        let versions = self.versions_of(table, key);
-        let pieces = lay_key(alloc, self, versions, version)?;
-        Ok(pieces)
-    }
-
     /// What versions have of the pieces for a key of a table, the oldest version first.
-    pub(crate) fn versions_of(&self, table: u16, key: &Key) -> &[Versioned]
+    pub fn versions_of(&self, table: u16, key: &Key) -> &[Versioned]
         ensures nested { AreNested result.now }
         ensures spanned { AreSpanned self.now result.now }
         ensures held { HoldKey self.now table key.now result.now }
@@ -372,7 +353,7 @@ impl Image {
     }
 
     /// What versions have of the pieces of a table, by key; None where it never had one.
-    pub(crate) fn keys_of(&self, table: u16) -> Option<&KeyVersions>
+    pub fn keys_of(&self, table: u16) -> Option<&KeyVersions>
         ensures { AreKeysOf self.now table (unwrap_or (option_map (λ keys. keys.entries) (option_copied result)) []) }
     {
         self.index.pieces.get(&table)

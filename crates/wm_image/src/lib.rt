@@ -2,14 +2,9 @@
 #![tactic(auto)]
 
 pub mod children;
-mod descent;
 pub mod image;
-pub mod laying;
-pub mod listing;
 pub mod load;
-mod overlap;
 pub mod shown;
-mod standing;
 
 pub use image::Image;
 pub use load::ImageFault;

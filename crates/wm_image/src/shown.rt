@@ -5,8 +5,8 @@ ghost use Rattle.wm_graph.specs.Parts.{parts_of};
 ghost use Rattle.wm_index.specs.Indexed.{IsIndexed, listed};
 ghost use Rattle.wm_state.specs.Standing.{latest};
 
+use wm_ids::keyed::last_in;
 use wm_index::index::Index;
-use wm_index::keyed::last_in;
 use wm_index::records::Kept;
 
 /// The newest version of a workspace, 0 where it has none: the last number that the index has under the workspace.

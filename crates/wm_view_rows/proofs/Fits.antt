@@ -1,5 +1,5 @@
 -- The rows of views fit their columns.
-use Rattle.std.proofs.Common.{◌≡◌, ℕ, suc, ◌+◌, ◌<◌, ◌==◌, ◌&&◌, ◌||◌, not, Bool, true, false, nat_lt, nat_le, if◌then◌else◌, List, [], ◌∷◌, ◌++◌, map, slice_get, Option, Some, None, is_some, refl, sym, ap, ◌∙◌, arith, subst, eqb-true, eq-eqb, codes}
+use Rattle.std.proofs.Common.{◌≡◌, ℕ, suc, ◌+◌, ◌<◌, ◌==◌, ◌&&◌, ◌||◌, Bool, true, false, nat_lt, nat_le, if◌then◌else◌, List, [], ◌∷◌, ◌++◌, map, slice_get, Option, Some, None, is_some, refl, sym, ap, ◌∙◌, arith, subst, eqb-true, eq-eqb, codes}
 use Rattle.std.proofs.lemmas.Bool.{ne_eqb, and_from, and_parts, or_right, true≢false}
 use Rattle.std.proofs.lemmas.Option.{same_Some, none-some}
 use Rattle.std.specs.Bool.{then_some}
@@ -33,11 +33,12 @@ use Rattle.wm_spec.specs.declared.record.piece.PieceRecord.{PieceRecord}
 use Rattle.wm_spec.specs.declared.record.row.RowRecord.{RowRecord}
 use Rattle.wm_spec.specs.declared.record.space.Space.{Space}
 use Rattle.wm_spec.specs.declared.record.table.Table.{Table}
+use Rattle.wm_state.specs.Listing.{standing}
 use Rattle.wm_state.specs.Standing.{covers_at, held_by, latest, newest_first, own_at, seen, seen_at, stored_at}
 use Rattle.wm_state.proofs.Apart.{found-passes, ruled}
 use Rattle.wm_state.proofs.Laying.{key_same}
 use Rattle.wm_state.proofs.Appending.{all_append}
-use Rattle.wm_telling.specs.Telling.{clash_held, is_pending, is_unsettled, own_held, stamps_of, standing}
+use Rattle.wm_telling.specs.Telling.{clash_held, is_pending, is_unsettled, own_held, stamps_of}
 use Rattle.wm_typing.specs.Columns.{columns_of_table, declared_column, valid_column}
 use Rattle.wm_view_rows.specs.Columns.{columns_of_view, history_columns, text_column}
 use Rattle.wm_view_rows.specs.Conflicts.{IsConflictView, clash_rows, rows_with, values_with}
@@ -258,7 +259,10 @@ standing_fits : (p : Parts) (t : Table) (c : Cell) (o : Option Held) → Suits p
 standing_fits p t c None suits vs e = absurd (none-some vs e)
 standing_fits p t c (Some h) suits vs e = by_gone h.gone refl e
   where
-    by_gone : (g : Bool) → h.gone ≡ g → option_and_then (values_with p) (then_some (not g) h.stamp.number) ≡ Some vs → fit_columns t.columns vs ≡ true
+    nothing : Option ℕ
+    nothing = None
+
+    by_gone : (g : Bool) → h.gone ≡ g → option_and_then (values_with p) (if g then nothing else Some h.stamp.number) ≡ Some vs → fit_columns t.columns vs ≡ true
     by_gone true is e = absurd (none-some vs e)
     by_gone false is e = suits.1 is vs e
 

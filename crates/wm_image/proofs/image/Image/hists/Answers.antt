@@ -2,12 +2,13 @@ use Rattle.std.proofs.Common.{◌≡◌, ℕ, List, [], refl, sym, ap, subst, �
 use Rattle.std.specs.Ordering.{nat_cmp}
 use Rattle.wm_chunks.specs.Numbers.{Numbers}
 use Rattle.wm_graph.specs.Parts.{parts_of, as_hist}
+use Rattle.wm_ids.proofs.TableLists.{no_keys}
+use Rattle.wm_ids.specs.Ids.{set_found}
 use Rattle.wm_index.proofs.Positions.{by_position, hists_told}
-use Rattle.wm_index.proofs.Using.{no_keys}
 use Rattle.wm_index.specs.Hists.{AreByPosition, logged_on}
 use Rattle.wm_index.specs.Indexed.{IsIndexed, ids_at, listed}
 use Rattle.wm_index.specs.Kinds.{kind_at}
-use Rattle.wm_index.specs.Sought.{HistsOn, set_found}
+use Rattle.wm_index.specs.Sought.{HistsOn}
 use Rattle.wm_index.specs.declared.index.Index.{Index}
 use Rattle.wm_spec.specs.declared.record.Record.{Record}
 use Rattle.wm_spec.specs.declared.record.stored.Stored.{Stored}

@@ -1,7 +1,7 @@
 use Rattle.std.proofs.Common.{ap, ◌∙◌, subst}
 use Rattle.wm_index.proofs.Finding.{one_id}
 use Rattle.wm_records.proofs.Listed.{Ascend-listed}
-use Rattle.wm_index.specs.Sought.{head_of}
+use Rattle.wm_ids.specs.Ids.{head_of}
 use Rattle.wm_state.specs.ById.{Ascend}
 use Rattle.wm_image.proofs.image.Image.id_of_counters.Goals as goal
 

@@ -1,9 +1,9 @@
 use Rattle.std.proofs.Common.{List, Option, ℕ, is_some, sym, ap, ◌∙◌}
 use Rattle.std.specs.Option.{option_and_then}
 use Rattle.wm_graph.specs.Parts.{parts_of, as_space, space_of}
+use Rattle.wm_ids.specs.Ids.{head_of}
 use Rattle.wm_index.proofs.Finding.{space_id}
 use Rattle.wm_index.specs.Indexed.{listed}
-use Rattle.wm_index.specs.Sought.{head_of}
 use Rattle.wm_spec.specs.Records.{record_at}
 use Rattle.wm_spec.specs.declared.record.stored.Stored.{Stored}
 use Rattle.wm_image.proofs.image.Image.id_of_space.Goals as goal

@@ -2,7 +2,8 @@ use Rattle.std.proofs.Common.{◌+◌, ◌==◌, ℕ, nat_lt, ap, ◌∙◌}
 use Rattle.std.specs.List.{list_all, list_any}
 use Rattle.std.specs.Option.{option_copied}
 use Rattle.wm_graph.specs.Parts.{parts_of}
-use Rattle.wm_index.proofs.Lasts.{LastOf, all_before}
+use Rattle.wm_ids.proofs.Lasts.{LastOf}
+use Rattle.wm_index.proofs.After.{all_before}
 use Rattle.wm_image.proofs.Saved.{is_made, last_made, next_fits, next_none, next_some}
 use Rattle.wm_spec.specs.declared.record.savepoint.Savepoint.{Savepoint}
 use Rattle.wm_image.proofs.image.Image.next_making.Goals as goal

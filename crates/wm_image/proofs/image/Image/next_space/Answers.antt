@@ -3,8 +3,9 @@ use Rattle.std.specs.List.{list_all}
 use Rattle.std.specs.Option.{option_copied}
 use Rattle.wm_graph.specs.Parts.{parts_of, space_of}
 use Rattle.wm_image.proofs.Coming.{space_after_is}
+use Rattle.wm_ids.proofs.Lasts.{LastOf}
 use Rattle.wm_index.proofs.Firsts.{some_found}
-use Rattle.wm_index.proofs.Lasts.{LastOf, all_before, last_there}
+use Rattle.wm_index.proofs.After.{all_before, last_there}
 use Rattle.wm_image.proofs.Spaced.{is_numbered, last_numbered}
 use Rattle.wm_spec.specs.declared.record.space.Space.{Space}
 use Rattle.wm_image.proofs.image.Image.next_space.Goals as goal

@@ -1,12 +1,12 @@
 use Rattle.std.proofs.Common.{◌≡◌, List, sym, ap, subst, ◌∙◌}
 use Rattle.wm_graph.specs.Parts.{as_piece, parts_of}
-use Rattle.wm_image.proofs.Walking.{held_told}
+use Rattle.wm_image.proofs.Keyed.{held_told}
 use Rattle.wm_image.specs.Shown.{first_held}
+use Rattle.wm_ids.specs.Versioned.{AreNested, AreSpanned, ids_under}
+use Rattle.wm_ids.specs.declared.versioned.Versioned.{Versioned}
 use Rattle.wm_index.specs.Indexed.{ids_at, listed}
 use Rattle.wm_index.specs.Kinds.{kind_at}
 use Rattle.wm_index.specs.Sought.{PieceAt}
-use Rattle.wm_index.specs.Versioned.{AreNested, AreSpanned, ids_under}
-use Rattle.wm_index.specs.declared.versioned.Versioned.{Versioned}
 use Rattle.wm_spec.specs.Lists.{Cell}
 use Rattle.wm_spec.specs.declared.record.stored.Stored.{Stored}
 use Rattle.wm_state.specs.Standing.{stored_at}

@@ -1,6 +1,0 @@
-use Rattle.wm_graph.specs.Parts.{parts_of}
-use Rattle.wm_image.proofs.Gathering.{GatheredTo}
-use Rattle.wm_image.proofs.listing.list_rows.Given as goal
-
-abbrev pub invariant-loop-versions : goal.invariant-loop-versions
-invariant-loop-versions l = GatheredTo (parts_of l.image) l.asked.version l.asked.table l.asked.valid l.asked.within l.initial.versions-iterator l.versions-iterator l.rows

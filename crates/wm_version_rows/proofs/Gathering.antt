@@ -1,0 +1,263 @@
+-- The rows of a table, gathered key by key.
+use Rattle.std.proofs.Common.{◌≡◌, ℕ, ◌<◌, ◌≤◌, ◌==◌, ◌&&◌, ◌||◌, nat_lt, nat_le, Bool, true, false, cond, All, List, [], ◌∷◌, ◌++◌, map, Option, Some, None, is_some, refl, sym, ap, ◌∙◌, subst, append_assoc, arith}
+use Rattle.std.proofs.lemmas.List.{append-nil}
+use Rattle.std.proofs.lemmas.List.Elements.{All-head, All-tail, filter_map-append}
+use Rattle.std.specs.BTreeMap.{is_at}
+use Rattle.std.specs.List.{list_any, list_all, filter_map, AllByRecursion}
+use Rattle.std.specs.List.Sorted.{IsStrictlySortedBy}
+use Rattle.std.specs.Map.{lookup, keys_of as entry_keys}
+use Rattle.std.specs.Option.{option_or, option_and_then, option_map_or}
+use Rattle.std.specs.Ordering.{is_eq, ordering_reverse}
+use Rattle.std.specs.declared.cmp.Ordering.{Ordering}
+use Rattle.std.specs.declared.cmp.Ordering.TheVariants.{Less, Equal, Greater}
+use Rattle.std.specs.declared.alloc.Global.{Global}
+use Rattle.std.specs.declared.vec.Vec.{Vec}
+use Rattle.std.proofs.lemmas.Bool.{and_parts}
+use Rattle.wm_base.specs.Key.{key_order}
+use Rattle.wm_base.specs.Orders.{key_order_total}
+use Rattle.wm_base.specs.Period.{Span}
+use Rattle.wm_base.specs.declared.instant.TheConstants.{END}
+use Rattle.wm_base.specs.declared.row.Row.{Row}
+use Rattle.wm_base.specs.declared.value.Value.{Value}
+use Rattle.wm_graph.specs.Parts.{Parts, parts_of, as_piece, table_of, version_of, row_of}
+use Rattle.wm_graph.specs.Rules.{keep_rules, are_cells, is_piece, is_row_at, is_key_of, differ, collide}
+use Rattle.wm_period.specs.Pieces.{Between, held_at}
+use Rattle.wm_period.specs.declared.piece.Piece.{Piece}
+use Rattle.wm_period.proofs.Order.{held_at-past}
+use Rattle.wm_spec.specs.Lists.{Cell}
+use Rattle.wm_spec.specs.Stretches.{Stretch, ComesBefore, KeysAscend, is_key_in}
+use Rattle.wm_spec.specs.declared.record.Record.{Record}
+use Rattle.wm_spec.specs.declared.record.Record.TheVariants as records
+use Rattle.wm_spec.specs.declared.record.piece.PieceRecord.{PieceRecord}
+use Rattle.wm_spec.specs.declared.record.row.RowRecord.{RowRecord}
+use Rattle.wm_spec.specs.declared.record.stored.Stored.{Stored}
+use Rattle.wm_spec.specs.declared.record.table.Table.{Table}
+use Rattle.wm_spec.specs.declared.record.version.Version.{Version}
+use Rattle.wm_state.specs.Listing.{standing, AreRowsOf, row_shown_with, Groups, keys_of, joined, AreAllRowsOf, IsShowing}
+use Rattle.wm_state.specs.Standing.{stored_at, seen_at, newest_first, seen}
+use Rattle.wm_state.proofs.Apart.{ruled}
+use Rattle.wm_tree.specs.declared.version.Version.{Version as Node}
+use Rattle.wm_version_rows.proofs.Spans.{maximal, value}
+use Rattle.wm_version_rows.proofs.Spanning.{stretches_are, shown_keyed}
+use Rattle.wm_version_rows.specs.Listing.{AddsRows, IsKeyShowing, shown_on}
+use Rattle.wm_image.specs.Shown.{AreKeysOf, HoldKey}
+use Rattle.wm_version_rows.specs.Standing.{stretches_on}
+use Rattle.wm_ids.specs.Versioned.{AreNested, AreSpanned, versions_found, versions_in}
+use Rattle.wm_ids.specs.declared.versioned.Versioned.{Versioned}
+use Rattle.wm_index.specs.Sought.{is_piece_of}
+
+-- ---- nothing is held from the end of time on
+
+abbrev cell : ℕ → List Value → ℕ → Cell
+cell table key t = record { table = table; key = key; time = t }
+
+-- a piece by the rules has ended
+ended : (tables : ℕ → Option Table) (versions : ℕ → Option Version) (rows : ℕ → Option RowRecord) (next : ℕ) (x : PieceRecord) → is_piece tables versions rows next x ≡ true → nat_le x.cells.till END ≡ true
+ended tables versions rows next x e =
+    let h = and_parts (is_some (versions x.version)) (are_cells tables x.cells && (nat_lt x.stamp next && (x.gone || option_map_or (is_row_at tables x.cells) (rows x.stamp) false))) e in
+    let g = and_parts (are_cells tables x.cells) (nat_lt x.stamp next && (x.gone || option_map_or (is_row_at tables x.cells) (rows x.stamp) false)) h.1 in
+    let d = and_parts (nat_lt x.cells.from x.cells.till && nat_le x.cells.till END) (option_map_or (is_key_of x.cells.key) (tables x.cells.table) false) g.0 in
+    (and_parts (nat_lt x.cells.from x.cells.till) (nat_le x.cells.till END) d.0).1
+
+past : (till end t : ℕ) → nat_le till end ≡ true → end ≤ t → nat_lt t till ≡ false
+past till end t e late = grind (arith, e, late)
+
+below : (t end : ℕ) → nat_lt t end ≡ true → t < end
+below t end e = grind (arith, e)
+
+above : (t end : ℕ) → nat_lt t end ≡ false → end ≤ t
+above t end e = grind (arith, e)
+
+late_stored : (tables : ℕ → Option Table) (versions : ℕ → Option Version) (rows : ℕ → Option RowRecord) (next : ℕ) (table : ℕ) (key : List Value) (t v : ℕ) → END ≤ t
+    → (xs : List PieceRecord) → list_all (is_piece tables versions rows next) xs ≡ true → stored_at xs v (cell table key t) ≡ None
+late_stored tables versions rows next table key t v late [] all = refl
+late_stored tables versions rows next table key t v late (x ∷ xs) all =
+    let h = and_parts (is_piece tables versions rows next x) (list_all (is_piece tables versions rows next) xs) all in
+    rw (
+      uncovered (x.version == v) ((x.cells.table == table) && is_eq (key_order x.cells.key key)) (nat_le x.cells.from t) (nat_lt t x.cells.till)
+          (past x.cells.till END t (ended tables versions rows next x h.0) late),
+      late_stored tables versions rows next table key t v late xs h.1,
+    ) refl
+  where
+    uncovered : (a b c d : Bool) → d ≡ false → (a && (b && (c && d))) ≡ false
+    uncovered true true true d e = e
+    uncovered true true false d e = refl
+    uncovered true false c d e = refl
+    uncovered false b c d e = refl
+
+unseen : (pieces : List PieceRecord) (c : Cell) → ((v : ℕ) → stored_at pieces v c ≡ None) → (nodes : List Node) (v : ℕ) → seen_at pieces nodes v c ≡ None
+unseen pieces c none [] v = refl
+unseen pieces c none (x ∷ older) v = by_number (x.number == v) (unseen pieces c none older x.parent) (unseen pieces c none older v)
+  where
+    by_number : (b : Bool) → seen_at pieces older x.parent c ≡ None → seen_at pieces older v c ≡ None → cond b (option_or (stored_at pieces v c) (seen_at pieces older x.parent c)) (seen_at pieces older v c) ≡ None
+    by_number true up along = rw (none v, up) refl
+    by_number false up along = along
+
+late_seen : (p : Parts) (version table : ℕ) (key : List Value) (t : ℕ) → keep_rules p ≡ true → END ≤ t → seen p version (cell table key t) ≡ None
+late_seen p version table key t rules late =
+    let r = ruled p rules in
+    let all = and_parts (differ collide p.pieces) (list_all (is_piece (table_of p.tables) (version_of p.versions) (row_of p.rows) r.counters.next_stamp) p.pieces) r.pieces in
+    unseen p.pieces (cell table key t)
+    (λ v. late_stored (table_of p.tables) (version_of p.versions) (row_of p.rows) r.counters.next_stamp table key t v late p.pieces all.1) (newest_first p.versions) version
+
+-- ---- the rows of a key
+
+-- the stretches of the pieces that a version has for a key are those of the rows that it holds
+pub are_rows : (p : Parts) (version table : ℕ) (key : List Value) (ps : List Piece) → keep_rules p ≡ true → Between 0 ps END
+    → ((t : ℕ) → t < END → held_at ps t ≡ seen p version (record { table = table; key = key; time = t })) → AreRowsOf p version table key (stretches_on ps)
+are_rows p version table key ps rules order same =
+    subst (AreRowsOf p version table key) (sym (stretches_are ps))
+    (record { maximal = maximal 0 ps END order; held = λ t. value 0 ps END order t ∙ ap (option_and_then standing) (by_time t (nat_lt t END) refl) })
+  where
+    by_time : (t : ℕ) (b : Bool) → nat_lt t END ≡ b → held_at ps t ≡ seen p version (cell table key t)
+    by_time t true e = same t (below t END e)
+    by_time t false e = held_at-past 0 ps END t order (above t END e) ∙ sym (late_seen p version table key t rules (above t END e))
+
+pub adds_rows : (p : Parts) (version table : ℕ) (valid : Bool) (within : Span) (key : List Value) (ps : List Piece) (old new : List Row) → keep_rules p ≡ true → Between 0 ps END
+    → ((t : ℕ) → t < END → held_at ps t ≡ seen p version (record { table = table; key = key; time = t })) → new ≡ old ++ shown_on p valid within (stretches_on ps) → AddsRows p version table valid within key old new
+adds_rows p version table valid within key ps old new rules order same added = record {
+  stretches = stretches_on ps;
+  are = are_rows p version table key ps rules order same;
+  added = added ∙ ap (λ rows. old ++ rows) (shown_keyed p valid within key (stretches_on ps));
+}
+
+-- what was put behind nothing is all of them
+pub lists_key : (p : Parts) (version table : ℕ) (valid : Bool) (within : Span) (key : List Value) (old new : List Row) → old ≡ [] → AddsRows p version table valid within key old new
+    → IsKeyShowing p version table valid within key new
+lists_key p version table valid within key old new none more = record {
+  stretches = more.stretches;
+  are = more.are;
+  shown = more.added ∙ ap (λ rows. rows ++ filter_map (row_shown_with p valid within) (map (λ s. (key, s)) more.stretches)) none;
+}
+
+-- ---- key by key
+
+-- what is shown of the rows of keys was gathered
+pub record Gathered (p : Parts) (version table : ℕ) (valid : Bool) (within : Span) (keys : List (List Value)) (rows : List Row) : Type 0 where
+  pub groups : Groups
+  pub keyed : keys_of groups ≡ keys
+  pub held : AreAllRowsOf p version table groups
+  pub are : rows ≡ filter_map (row_shown_with p valid within) (joined groups)
+
+pub gathered_none : (p : Parts) (version table : ℕ) (valid : Bool) (within : Span) (rows : List Row) → rows ≡ [] → Gathered p version table valid within [] rows
+gathered_none p version table valid within rows none = record { groups = []; keyed = refl; held = tt; are = none }
+
+keys_of-push : (gs : Groups) (key : List Value) (ss : List Stretch) → keys_of (gs ++ (key, ss) ∷ []) ≡ keys_of gs ++ key ∷ []
+keys_of-push [] key ss = refl
+keys_of-push (g ∷ gs) key ss = ap (λ ks. g.0 ∷ ks) (keys_of-push gs key ss)
+
+held-push : (p : Parts) (version table : ℕ) (gs : Groups) (key : List Value) (ss : List Stretch) → AreAllRowsOf p version table gs → AreRowsOf p version table key ss → AreAllRowsOf p version table (gs ++ (key, ss) ∷ [])
+held-push p version table [] key ss held are = (are, tt)
+held-push p version table (g ∷ gs) key ss held are = (held.0, held-push p version table gs key ss held.1 are)
+
+joined-push : (gs : Groups) (key : List Value) (ss : List Stretch) → joined (gs ++ (key, ss) ∷ []) ≡ joined gs ++ map (λ s. (key, s)) ss
+joined-push [] key ss = append-nil (map (λ s. (key, s)) ss)
+joined-push (g ∷ gs) key ss = ap (λ l. map (λ s. (g.0, s)) g.1 ++ l) (joined-push gs key ss) ∙ sym (append_assoc (map (λ s. (g.0, s)) g.1) (joined gs) (map (λ s. (key, s)) ss))
+
+pub gathered_more : (p : Parts) (version table : ℕ) (valid : Bool) (within : Span) (keys : List (List Value)) (key : List Value) (old new : List Row) → Gathered p version table valid within keys old
+    → AddsRows p version table valid within key old new → Gathered p version table valid within (keys ++ key ∷ []) new
+gathered_more p version table valid within keys key old new so more = record {
+  groups = so.groups ++ (key, more.stretches) ∷ [];
+  keyed = keys_of-push so.groups key more.stretches ∙ ap (λ ks. ks ++ key ∷ []) so.keyed;
+  held = held-push p version table so.groups key more.stretches so.held more.are;
+  are =
+      more.added
+      ∙ ap (λ rows. rows ++ filter_map (row_shown_with p valid within) (map (λ s. (key, s)) more.stretches)) so.are
+      ∙ sym (filter_map-append (row_shown_with p valid within) (joined so.groups) (map (λ s. (key, s)) more.stretches))
+      ∙ ap (filter_map (row_shown_with p valid within)) (sym (joined-push so.groups key more.stretches));
+}
+
+-- ---- entry by entry
+
+-- what versions have by key
+abbrev pub Entries : Type 0
+Entries = List (List Value × Vec Versioned Global)
+
+-- the rows of the keys before the rest were gathered
+pub record GatheredTo (p : Parts) (version table : ℕ) (valid : Bool) (within : Span) (all rest : Entries) (rows : List Row) : Type 0 where
+  pub passed : List (List Value)
+  pub parted : passed ++ entry_keys rest ≡ entry_keys all
+  pub found : All (λ e. lookup (is_at (key_order e.0)) all ≡ Some e.1) rest
+  pub so : Gathered p version table valid within passed rows
+
+pub gathered_first : (p : Parts) (version table : ℕ) (valid : Bool) (within : Span) (all rest : Entries) (rows : List Row) → rest ≡ all → All (λ e. lookup (is_at (key_order e.0)) all ≡ Some e.1) all → rows ≡ []
+    → GatheredTo p version table valid within all rest rows
+gathered_first p version table valid within all rest rows whole found none = record {
+  passed = [];
+  parted = ap entry_keys whole;
+  found = subst (All (λ e. lookup (is_at (key_order e.0)) all ≡ Some e.1)) (sym whole) found;
+  so = gathered_none p version table valid within rows none;
+}
+
+-- the versions of the next key
+pub next_versions : (p : Parts) (version table : ℕ) (valid : Bool) (within : Span) (all left rest : Entries) (e : List Value × Vec Versioned Global) (rows : List Row) → left ≡ e ∷ rest
+    → GatheredTo p version table valid within all left rows → versions_in all e.0 ≡ e.1.items
+next_versions p version table valid within all left rest e rows is so =
+    ap versions_found (All-head (λ e. lookup (is_at (key_order e.0)) all ≡ Some e.1) e rest (subst (All (λ e. lookup (is_at (key_order e.0)) all ≡ Some e.1)) is so.found))
+
+-- they are nested, and their pieces lie in their periods
+pub next_nested : (ss : List Stored) (version table : ℕ) (valid : Bool) (within : Span) (all left rest : Entries) (e : List Value × Vec Versioned Global) (es : List Versioned) (rows : List Row) → left ≡ e ∷ rest
+    → GatheredTo (parts_of ss) version table valid within all left rows → AreKeysOf ss table all → es ≡ e.1.items → AreNested es × AreSpanned ss es
+next_nested ss version table valid within all left rest e es rows is so keys same =
+    let held : versions_in all e.0 ≡ es = next_versions (parts_of ss) version table valid within all left rest e rows is so ∙ sym same in
+    (subst AreNested held (keys.nested e.0), subst (AreSpanned ss) held (keys.spanned e.0))
+
+pub gathered_next : (ss : List Stored) (version table : ℕ) (valid : Bool) (within : Span) (all left rest : Entries) (e : List Value × Vec Versioned Global) (old new : List Row) → left ≡ e ∷ rest
+    → GatheredTo (parts_of ss) version table valid within all left old → AreKeysOf ss table all
+    → ((key : List Value) → HoldKey ss table key e.1.items → AddsRows (parts_of ss) version table valid within key old new) → GatheredTo (parts_of ss) version table valid within all rest new
+gathered_next ss version table valid within all left rest e old new is so keys more = record {
+  passed = so.passed ++ e.0 ∷ [];
+  parted = append_assoc so.passed (e.0 ∷ []) (entry_keys rest) ∙ ap (λ (l : Entries). so.passed ++ entry_keys l) (sym is) ∙ so.parted;
+  found = All-tail (λ e. lookup (is_at (key_order e.0)) all ≡ Some e.1) e rest (subst (All (λ e. lookup (is_at (key_order e.0)) all ≡ Some e.1)) is so.found);
+  so =
+      gathered_more (parts_of ss) version table valid within so.passed e.0 old new so.so
+      (more e.0 (subst (HoldKey ss table e.0) (next_versions (parts_of ss) version table valid within all left rest e old is so) (keys.held e.0)));
+}
+
+-- ---- all keys
+
+ascend : (keys : List (List Value)) → IsStrictlySortedBy key_order keys → KeysAscend keys
+unfolding IsStrictlySortedBy
+ascend [] sorted = tt
+ascend (k ∷ ks) sorted = (before ks sorted.0, ascend ks sorted.1)
+  where
+    before : (ks : List (List Value)) → AllByRecursion (λ q. key_order k q ≡ Less) ks → ComesBefore k ks
+    before [] all = tt
+    before (q ∷ qs) all = (all.0, before qs all.1)
+
+sought_pieces : (table : ℕ) (k : List Value) (rs : List Record) → list_any (λ (x : PieceRecord). (x.cells.table == table) && is_eq (key_order x.cells.key k)) (filter_map as_piece rs) ≡ list_any (is_piece_of table k) rs
+sought_pieces table k [] = refl
+sought_pieces table k (records.Piece x ∷ rs) = ap (λ b. ((x.cells.table == table) && is_eq (key_order x.cells.key k)) || b) (sought_pieces table k rs)
+sought_pieces table k (_ ∷ rs) = sought_pieces table k rs
+
+-- a key that is not among those of entries has no versions
+unheld : (k : List Value) (all : Entries) → is_key_in k (entry_keys all) ≡ false → versions_in all k ≡ []
+unheld k [] out = refl
+unheld k (e ∷ es) out =
+    let parts = neither (is_eq (key_order e.0 k)) (is_key_in k (entry_keys es)) out in
+    ap (λ b. versions_found (cond b (Some e.1) (lookup (is_at (key_order k)) es))) (tie (key_order e.0 k) (key_order k e.0) (key_order_total.antisymm k e.0) parts.0) ∙ unheld k es parts.1
+  where
+    neither : (a b : Bool) → (a || b) ≡ false → (a ≡ false) × (b ≡ false)
+    neither false b h = (refl, h)
+    neither true b h = absurd (cc)
+
+    tie : (o q : Ordering) → q ≡ ordering_reverse o → is_eq o ≡ false → is_eq q ≡ false
+    tie Less q is out = ap is_eq is
+    tie Equal q is out = absurd (cc)
+    tie Greater q is out = ap is_eq is
+
+-- what was gathered of all keys is what shows
+pub is_showing : (ss : List Stored) (version table : ℕ) (valid : Bool) (within : Span) (all : Entries) (rows : List Row) → AreKeysOf ss table all → IsStrictlySortedBy key_order (entry_keys all)
+    → GatheredTo (parts_of ss) version table valid within all [] rows → IsShowing (parts_of ss) version table valid within rows
+unfolding parts_of
+is_showing ss version table valid within all rows keys sorted gathered = record {
+  groups = gathered.so.groups;
+  ascend = subst KeysAscend (sym keyed) (ascend (entry_keys all) sorted);
+  whole = λ k out.
+      sought_pieces table k (map (λ (s : Stored). s.record) ss) ∙ keys.whole k (unheld k all (ap (is_key_in k) (sym keyed) ∙ out));
+  held = gathered.so.held;
+  are = gathered.so.are;
+}
+  where
+    keyed : keys_of gathered.so.groups ≡ entry_keys all
+    keyed = gathered.so.keyed ∙ sym (append-nil gathered.passed) ∙ gathered.parted
