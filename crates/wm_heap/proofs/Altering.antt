@@ -11,12 +11,15 @@ use Rattle.wm_base.proofs.Plain.{nonzero, unless_parts}
 use Rattle.wm_spec.specs.Records.{ids_differ}
 use Rattle.wm_heap.specs.declared.blob.Blob.{Blob}
 use Rattle.wm_heap.specs.declared.heap.Heap.{Heap}
-use Rattle.wm_heap.specs.Blobs.{blob_at, after, alters, AreBlobs, AreBytes, AreSmall, AreSomeOf, OverBytes, change_something}
+use Rattle.wm_heap.specs.Blobs.{blob_at, after, alters, moves, AreBlobs, AreBytes, AreSmall, AreSomeOf, OverBytes, change_something, slots_put}
 use Rattle.wm_heap.specs.Content.{bytes_at, content}
 use Rattle.wm_heap.specs.Places.{place_of, IsHeapOf}
+use Rattle.wm_heap.specs.Draft.{slot_size}
 use Rattle.wm_heap.specs.Plan.{IsChanged}
+use Rattle.wm_heap.specs.Slots.{used}
 use Rattle.wm_heap.proofs.Getting.{bytes_there, bytes_nowhere, page_there}
 use Rattle.wm_heap.proofs.Planning.{AreBlobs-rest}
+use Rattle.wm_heap.proofs.Sizes.{used-least, used-put}
 
 -- ---- the test of a blob
 
@@ -68,32 +71,79 @@ alters_dropped standing b some none = ap (λ (o : Option (List ℕ)). not (optio
 
 -- ---- one blob after another
 
-pub some_skipped : (some blobs : List Blob) (b : Blob) → AreSomeOf some blobs → AreSomeOf some (blobs ++ b ∷ [])
+some_skipped : (some blobs : List Blob) (b : Blob) → AreSomeOf some blobs → AreSomeOf some (blobs ++ b ∷ [])
 some_skipped [] blobs b are = tt
 some_skipped (s ∷ some) [] b are = absurd are
 some_skipped (s ∷ some) (d ∷ blobs) b (inl first) = inl (first.0, some_skipped some blobs b first.1)
 some_skipped (s ∷ some) (d ∷ blobs) b (inr later) = inr (some_skipped (s ∷ some) blobs b later)
 
-pub some_pushed : (some blobs : List Blob) (b : Blob) → AreSomeOf some blobs → AreSomeOf (some ++ b ∷ []) (blobs ++ b ∷ [])
+some_pushed : (some blobs : List Blob) (b : Blob) → AreSomeOf some blobs → AreSomeOf (some ++ b ∷ []) (blobs ++ b ∷ [])
 some_pushed [] [] b are = inl (refl, tt)
 some_pushed [] (d ∷ blobs) b are = inr (some_pushed [] blobs b tt)
 some_pushed (s ∷ some) [] b are = absurd are
 some_pushed (s ∷ some) (d ∷ blobs) b (inl first) = inl (first.0, some_pushed some blobs b first.1)
 some_pushed (s ∷ some) (d ∷ blobs) b (inr later) = inr (some_pushed (s ∷ some) blobs b later)
 
-pub filter_pushed : (test : Blob → Bool) (left blobs : List Blob) (b : Blob) → left ≡ filter test blobs → test b ≡ true → left ++ b ∷ [] ≡ filter test (blobs ++ b ∷ [])
+both_pushed : (test : Blob → Bool) (left blobs : List Blob) (b : Blob) → filter test left ≡ filter test blobs → filter test (left ++ b ∷ []) ≡ filter test (blobs ++ b ∷ [])
+both_pushed test left blobs b same = filter-append test left (b ∷ []) ∙ ap (λ l. l ++ filter test (b ∷ [])) same ∙ sym (filter-append test blobs (b ∷ []))
+
+filter_pushed : (test : Blob → Bool) (left blobs : List Blob) (b : Blob) → left ≡ filter test blobs → test b ≡ true → left ++ b ∷ [] ≡ filter test (blobs ++ b ∷ [])
 filter_pushed test left blobs b are e =
     let one : filter test (b ∷ []) ≡ b ∷ [] = rw e refl in
     ap (λ l. l ++ b ∷ []) are ∙ ap (λ l. filter test blobs ++ l) (sym one) ∙ sym (filter-append test blobs (b ∷ []))
 
-pub filter_skipped : (test : Blob → Bool) (left blobs : List Blob) (b : Blob) → left ≡ filter test blobs → test b ≡ false → left ≡ filter test (blobs ++ b ∷ [])
+filter_skipped : (test : Blob → Bool) (left blobs : List Blob) (b : Blob) → left ≡ filter test blobs → test b ≡ false → left ≡ filter test (blobs ++ b ∷ [])
 filter_skipped test left blobs b are e =
     let one : filter test (b ∷ []) ≡ [] = rw e refl in
     are ∙ sym (append-nil (filter test blobs)) ∙ ap (λ l. filter test blobs ++ l) (sym one) ∙ sym (filter-append test blobs (b ∷ []))
 
-pub OverBytes-push : (standing : ℕ → Option (List ℕ)) (blobs : List Blob) (b : Blob) → OverBytes standing blobs → (is_some b.bytes ≡ true → AreBytes (standing b.id)) → OverBytes standing (blobs ++ b ∷ [])
+OverBytes-push : (standing : ℕ → Option (List ℕ)) (blobs : List Blob) (b : Blob) → OverBytes standing blobs → (is_some b.bytes ≡ true → AreBytes (standing b.id)) → OverBytes standing (blobs ++ b ∷ [])
 OverBytes-push standing [] b over read = (read, tt)
 OverBytes-push standing (d ∷ blobs) b over read = (over.0, OverBytes-push standing blobs b over.1 read)
+
+-- what is known of the blobs that are left of those looked at so far, whatever the pages hold
+pub record Leaving (there : ℕ → Bool) (left blobs : List Blob) : Type 0 where
+  pub some : AreSomeOf left blobs
+  pub moved : filter (moves there) left ≡ filter (moves there) blobs
+
+pub leaving_pushed : (there : ℕ → Bool) (left blobs : List Blob) (b : Blob) → Leaving there left blobs → Leaving there (left ++ b ∷ []) (blobs ++ b ∷ [])
+leaving_pushed there left blobs b leaving = record {
+  some = some_pushed left blobs b leaving.some;
+  moved = both_pushed (moves there) left blobs b leaving.moved;
+}
+
+pub leaving_skipped : (there : ℕ → Bool) (left blobs : List Blob) (b : Blob) (answer : Bool) → Leaving there left blobs → (moves there b ≡ true → answer ≡ true) → answer ≡ false → Leaving there left (blobs ++ b ∷ [])
+leaving_skipped there left blobs b answer leaving moved e = record {
+  some = some_skipped left blobs b leaving.some;
+  moved = filter_skipped (moves there) (filter (moves there) left) blobs b leaving.moved (by_test (moves there b) refl);
+}
+  where
+    by_test : (t : Bool) → moves there b ≡ t → t ≡ false
+    by_test true f = absurd (let always = moved f in cc)
+    by_test false f = refl
+
+-- what is known besides where the pages are told
+pub record Altered (standing : ℕ → Option (List ℕ)) (left blobs : List Blob) : Type 0 where
+  pub altering : left ≡ filter (alters standing) blobs
+  pub read : OverBytes standing blobs
+
+-- what stands under each id, of the same pages
+pub standing_same : (held there : ℕ → List ℕ) (in_use use_there : ℕ) → there ≡ held → use_there ≡ in_use → bytes_at (content there use_there) ≡ bytes_at (content held in_use)
+standing_same held there in_use use_there same use_same = ap (λ h. bytes_at (content h use_there)) same ∙ ap (λ u. bytes_at (content held u)) use_same
+
+pub altered_pushed : (standing there : ℕ → Option (List ℕ)) (left blobs : List Blob) (b : Blob) (answer : Bool) → there ≡ standing → Altered standing left blobs → answer ≡ alters there b → (is_some b.bytes ≡ true → AreBytes (there b.id)) → answer ≡ true
+    → Altered standing (left ++ b ∷ []) (blobs ++ b ∷ [])
+altered_pushed standing there left blobs b answer same altered is read e = record {
+  altering = filter_pushed (alters standing) left blobs b altered.altering (ap (λ s. alters s b) (sym same) ∙ sym is ∙ e);
+  read = OverBytes-push standing blobs b altered.read (subst (λ s. is_some b.bytes ≡ true → AreBytes (s b.id)) same read);
+}
+
+pub altered_skipped : (standing there : ℕ → Option (List ℕ)) (left blobs : List Blob) (b : Blob) (answer : Bool) → there ≡ standing → Altered standing left blobs → answer ≡ alters there b → (is_some b.bytes ≡ true → AreBytes (there b.id)) → answer ≡ false
+    → Altered standing left (blobs ++ b ∷ [])
+altered_skipped standing there left blobs b answer same altered is read e = record {
+  altering = filter_skipped (alters standing) left blobs b altered.altering (ap (λ s. alters s b) (sym same) ∙ sym is ∙ e);
+  read = OverBytes-push standing blobs b altered.read (subst (λ s. is_some b.bytes ≡ true → AreBytes (s b.id)) same read);
+}
 
 -- ---- what some of the blobs keep
 
@@ -102,6 +152,13 @@ length-some [] blobs are = omega arith
 length-some (s ∷ some) [] are = absurd are
 length-some (s ∷ some) (b ∷ blobs) (inl first) = omega (arith, length-some some blobs first.1)
 length-some (s ∷ some) (b ∷ blobs) (inr later) = omega (arith, length-some (s ∷ some) blobs later)
+
+-- what they put takes no more bytes
+pub used-some : (some blobs : List Blob) → AreSomeOf some blobs → used (slots_put some) ≤ used (slots_put blobs)
+used-some [] blobs are = used-least (slots_put blobs)
+used-some (s ∷ some) [] are = absurd are
+used-some (s ∷ some) (b ∷ blobs) (inl first) = omega (arith, used-some some blobs first.1, used-put s some, used-put b blobs, ap (λ (x : Blob). slot_size x.bytes) first.0)
+used-some (s ∷ some) (b ∷ blobs) (inr later) = omega (arith, used-some (s ∷ some) blobs later, used-put b blobs)
 
 pub AreSmall-some : (some blobs : List Blob) → AreSomeOf some blobs → AreSmall blobs → AreSmall some
 AreSmall-some [] blobs are small = tt

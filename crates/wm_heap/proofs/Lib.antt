@@ -3,6 +3,7 @@ pub mod Finding
 pub mod First
 pub mod Fronts
 pub mod Getting
+pub mod Knowing
 pub mod Loading
 pub mod Packed
 pub mod Pages

@@ -1,5 +1,5 @@
 -- From the steps of a change to its pages.
-use Rattle.std.proofs.Common.{◌≡◌, ℕ, ◌+◌, ◌-◌, ◌*◌, ◌<◌, ◌≤◌, ◌⊎◌, inl, inr, ⊎_elim, Bool, true, false, cond, not, ◌&&◌, ◌||◌, eqb, ltb, List, [], ◌∷◌, ◌++◌, length, get_or, drop, map, Option, Some, None, is_some, unwrap_or, IfSome, refl, sym, ap, subst, ◌∙◌, arith}
+use Rattle.std.proofs.Common.{◌≡◌, ℕ, ◌+◌, ◌-◌, ◌*◌, ◌<◌, ◌≤◌, ◌⊎◌, inl, inr, ⊎_elim, Bool, true, false, cond, not, ◌&&◌, ◌||◌, eqb, ltb, List, [], ◌∷◌, ◌++◌, length, get_or, drop, map, Option, Some, None, is_some, unwrap_or, refl, sym, ap, subst, ◌∙◌, arith}
 use Rattle.std.specs.Option.{option_and_then}
 use Rattle.std.specs.List.{list_any, AllByRecursion}
 use Rattle.std.specs.List.Sorted.{IsStrictlySortedBy}
@@ -18,13 +18,16 @@ use Rattle.wm_page.specs.Fields.{number_at}
 use Rattle.wm_heap.specs.declared.blob.Blob.{Blob}
 use Rattle.wm_heap.specs.declared.heap.Heap.{Heap}
 use Rattle.wm_heap.specs.declared.slot.Slot.{Slot}
-use Rattle.wm_heap.specs.Slots.{slots_of, page_of}
+use Rattle.wm_heap.specs.Slots.{slots_of, page_of, used}
 use Rattle.wm_heap.specs.Content.{bytes_at, slots_in, content}
-use Rattle.wm_heap.specs.Blobs.{blob_at, after, AreBlobs, AreSmall, change_something}
+use Rattle.wm_heap.specs.Blobs.{blob_at, after, AreBlobs, AreSmall, change_something, slots_put}
 use Rattle.wm_heap.specs.Places.{at, ids_of, place_of, page_count, Once, IsPlaced, IsHeapOf}
 use Rattle.wm_heap.specs.Plan.{root_of, IsPlan, IsChanged, laid}
-use Rattle.wm_heap.specs.Draft.{slots_now, bytes_now, HasRoom, IsThere, Stands, Grows, Goes, Done, written, rooted, paged}
+use Rattle.wm_heap.specs.Draft.{slots_now, bytes_now, HasRoom, IsThere, Stands, Grows, Goes, Done, IsLean, slot_size, written, rooted, paged}
+use Rattle.wm_heap.specs.Room.{KnowsRoom, Spreads}
+use Rattle.wm_heap.proofs.Knowing.{knows_same, quarters_few}
 use Rattle.wm_heap.proofs.Upto.{bytes_at-all, sound}
+use Rattle.wm_heap.proofs.Sizes.{used-append, used-put}
 use Rattle.wm_heap.proofs.Standing.{Grows-none, Grows-then}
 
 -- ---- blobs, each with an id of its own
@@ -62,12 +65,6 @@ going_begun old changed blobs empty once small = record {
 
 head_named : (b : Blob) (blobs : List Blob) → is_some (blob_at (b ∷ blobs) b.id) ≡ true
 head_named b blobs = let t : eqb b.id b.id ≡ true = grind arith in rw t refl
-
-pub head_small : (b : Blob) (blobs : List Blob) (i : ℕ) → i < length blobs → b ≡ get_or blobs i b → AreSmall (drop i blobs) → IfSome b.bytes (λ bytes. length bytes ≤ 4084)
-head_small b blobs i within is small =
-    let at_i : drop i blobs ≡ b ∷ drop (i + 1) blobs = drop_more blobs i b within ∙ ap (λ x. x ∷ drop (i + 1) blobs) (sym is) in
-    let all : AreSmall (b ∷ drop (i + 1) blobs) = subst AreSmall at_i small in
-    all.0
 
 pub going_on : (old heap new : Heap) (was now : List (ℕ × List Slot)) (blobs : List Blob) (i : ℕ) (b : Blob) → i < length blobs → b ≡ get_or blobs i b → Going old heap was blobs i
     → Goes heap new was now b.id (is_some b.bytes || is_some (place_of heap b.id)) → Going old new now blobs (i + 1)
@@ -158,6 +155,72 @@ telling_on heap new was now held in_use in_file blobs i b within is once telling
     by_tests id none true e false f = absurd (let same = eqb-true id b.id e in grind (arith, same, f))
     by_tests id none false e true f = absurd (let same = eqb-true b.id id f in grind (arith, same, e))
     by_tests id none false e false f = refl
+
+-- what blobs put take so many bytes in all
+abbrev pub put_size : List Blob → ℕ
+put_size blobs = used (slots_put blobs)
+
+-- no page has more than what the store holds there and what the blobs before blob i put, and one was added only where
+-- the last page had no room for that
+pub record Leaning (old heap : Heap) (changed : List (ℕ × List Slot)) (held : ℕ → List ℕ) (blobs : List Blob) (i : ℕ) : Type 0 where
+  pub more : (p : ℕ) → used (slots_now changed held p) + put_size (drop i blobs) ≤ used (slots_in held p) + put_size blobs
+  pub full : page_count old < page_count heap → 2 < page_count old → 4096 + put_size (drop i blobs) < used (slots_in held (page_count old - 1)) + put_size blobs
+
+pub leaning_begun : (old : Heap) (changed : List (ℕ × List Slot)) (held : ℕ → List ℕ) (blobs : List Blob) → changed ≡ [] → Leaning old old changed held blobs 0
+leaning_begun old changed held blobs empty = subst (λ l. Leaning old old l held blobs 0) (sym empty) (record {
+  more = λ p. omega arith;
+  full = λ grown some. absurd (omega arith);
+})
+
+pub leaning_on : (old heap new : Heap) (was now : List (ℕ × List Slot)) (held : ℕ → List ℕ) (blobs : List Blob) (i : ℕ) (b : Blob) → i < length blobs → b ≡ get_or blobs i b → page_count old ≤ page_count heap → Leaning old heap was held blobs i
+    → IsLean heap new was now held (slot_size b.bytes) → Leaning old new now held blobs (i + 1)
+leaning_on old heap new was now held blobs i b within is no_fewer leaning lean = record {
+  more = λ p. (let before = leaning.more p in let step = lean.more p in omega (arith, size));
+  full = λ grown some. full_by some (cases_lt (page_count old) (page_count heap)) grown;
+}
+  where
+    size : put_size (drop i blobs) ≡ slot_size b.bytes + put_size (drop (i + 1) blobs)
+    size = ap put_size (drop_more blobs i b within ∙ ap (λ x. x ∷ drop (i + 1) blobs) (sym is)) ∙ used-put b (drop (i + 1) blobs)
+
+    full_by : 2 < page_count old → (page_count old < page_count heap) ⊎ (page_count heap ≤ page_count old) → page_count old < page_count new
+        → 4096 + put_size (drop (i + 1) blobs) < used (slots_in held (page_count old - 1)) + put_size blobs
+    full_by some (inl before) grown = let t = leaning.full before some in omega (arith, size)
+    full_by some (inr still) grown =
+        let same : page_count heap ≡ page_count old = omega arith in
+        let step = subst (λ n. 4096 < used (slots_now was held (n - 1)) + slot_size b.bytes) same (lean.full (omega arith) (omega arith)) in
+        let before = leaning.more (page_count old - 1) in
+        omega (arith, size)
+
+-- the room of the pages is known, and a page was added only where each page had less than a quarter of a page more room
+-- than the blobs before blob i put
+pub record Spreading (old heap : Heap) (changed : List (ℕ × List Slot)) (held : ℕ → List ℕ) (blobs : List Blob) (i : ℕ) : Type 0 where
+  pub knows : KnowsRoom heap.room (slots_now changed held) (page_count heap)
+  pub full : page_count old < page_count heap → (p : ℕ) → 2 ≤ p → p < page_count old → 4096 + put_size (drop i blobs) < used (slots_in held p) + put_size blobs + 1024
+
+pub spreading_begun : (old : Heap) (changed : List (ℕ × List Slot)) (held : ℕ → List ℕ) (blobs : List Blob) → changed ≡ [] → KnowsRoom old.room (slots_in held) (page_count old) → Spreading old old changed held blobs 0
+spreading_begun old changed held blobs empty knows = subst (λ l. Spreading old old l held blobs 0) (sym empty) (record {
+  knows = knows;
+  full = λ grown. absurd (omega arith);
+})
+
+pub spreading_on : (old heap new : Heap) (was now : List (ℕ × List Slot)) (held : ℕ → List ℕ) (blobs : List Blob) (i : ℕ) (b : Blob) → i < length blobs → b ≡ get_or blobs i b → page_count old ≤ page_count heap → Leaning old heap was held blobs i → Spreading old heap was held blobs i
+    → Spreads heap new was now held (slot_size b.bytes) → Spreading old new now held blobs (i + 1)
+spreading_on old heap new was now held blobs i b within is no_fewer leaning spreading spread = record {
+  knows = spread.knows;
+  full = λ grown p from till. full_by p from till (cases_lt (page_count old) (page_count heap)) grown;
+}
+  where
+    size : put_size (drop i blobs) ≡ slot_size b.bytes + put_size (drop (i + 1) blobs)
+    size = ap put_size (drop_more blobs i b within ∙ ap (λ x. x ∷ drop (i + 1) blobs) (sym is)) ∙ used-put b (drop (i + 1) blobs)
+
+    full_by : (p : ℕ) → 2 ≤ p → p < page_count old → (page_count old < page_count heap) ⊎ (page_count heap ≤ page_count old) → page_count old < page_count new
+        → 4096 + put_size (drop (i + 1) blobs) < used (slots_in held p) + put_size blobs + 1024
+    full_by p from till (inl before) grown = let t = spreading.full before p from till in omega (arith, size)
+    full_by p from till (inr still) grown =
+        let step = spread.full (omega arith) p from (omega arith) in
+        let before = leaning.more p in
+        let few = quarters_few (slot_size b.bytes) in
+        omega (arith, size)
 
 -- ---- the pages
 
@@ -365,6 +428,24 @@ pub planned_none : (old heap : Heap) (changed : List (ℕ × List Slot)) (blobs 
 planned_none old heap changed blobs i before count pages before_is count_is pages_are end going =
     ap (λ n. eqb n 0) (sym (length-entries pages) ∙ ap length (pages_are ∙ ap (λ n. paged n count changed) before_is ∙ ap (λ n. paged (page_count old) n changed) count_is))
     ∙ paged_none (page_count old) (page_count heap) changed going.grows ∙ sym (all_gone (eqb (length changed) 0) (drop i blobs) (λ id. is_some (place_of old id)) (drop_all i blobs end)) ∙ going.nothing
+
+pub planned_lean : (old heap : Heap) (changed : List (ℕ × List Slot)) (held : ℕ → List ℕ) (blobs : List Blob) (i : ℕ) → length blobs ≤ i → Leaning old heap changed held blobs i → page_count old < page_count heap → 2 < page_count old
+    → 4096 < used (slots_in held (page_count old - 1) ++ slots_put blobs)
+planned_lean old heap changed held blobs i end leaning grown some =
+    let none : put_size (drop i blobs) ≡ 2 = ap put_size (drop_all i blobs end) in
+    omega (arith, none, leaning.full grown some, used-append (slots_in held (page_count old - 1)) (slots_put blobs))
+
+pub planned_spread : (old heap : Heap) (changed : List (ℕ × List Slot)) (held : ℕ → List ℕ) (blobs : List Blob) (i : ℕ) → length blobs ≤ i → Spreading old heap changed held blobs i → page_count old < page_count heap → (p : ℕ) → 2 ≤ p → p < page_count old
+    → 4096 < used (slots_in held p ++ slots_put blobs) + 1024
+planned_spread old heap changed held blobs i end spreading grown p from till =
+    let none : put_size (drop i blobs) ≡ 2 = ap put_size (drop_all i blobs end) in
+    omega (arith, none, spreading.full grown p from till, used-append (slots_in held p) (slots_put blobs))
+
+pub planned_knows : (heap : Heap) (changed : List (ℕ × List Slot)) (held : ℕ → List ℕ) (before count : ℕ) (pages : List PageWrite) → entries pages ≡ paged before count changed → ReadsAgain changed
+    → KnowsRoom heap.room (slots_now changed held) (page_count heap) → KnowsRoom heap.room (slots_in (laid (entries pages) held)) (page_count heap)
+planned_knows heap changed held before count pages pages_are again knows =
+    subst (λ es. KnowsRoom heap.room (slots_in (laid es held)) (page_count heap)) (sym pages_are)
+    (knows_same heap.room (slots_now changed held) (slots_in (laid (paged before count changed) held)) (page_count heap) (λ p from till. slots_laid before count changed held again p from) knows)
 
 pub planned_told : (heap : Heap) (changed : List (ℕ × List Slot)) (held : ℕ → List ℕ) (in_use in_file : ℕ) (blobs : List Blob) (i before count : ℕ) (pages : List PageWrite) → count ≡ page_count heap → entries pages ≡ paged before count changed → length blobs ≤ i → ReadsAgain changed
     → Telling heap changed held in_use in_file blobs i → IsChanged heap blobs (entries pages) held in_use

@@ -10,7 +10,10 @@ use Rattle.std.proofs.lemmas.Option.{same_Some}
 use Rattle.wm_codec.specs.Format.{times}
 use Rattle.wm_codec.specs.Fields.{u16, text_at, number_at}
 use Rattle.wm_codec.proofs.Exact.{then_some, map_some, guard_some}
+use Rattle.wm_heap.specs.declared.blob.Blob.{Blob}
 use Rattle.wm_heap.specs.declared.slot.Slot.{Slot}
+use Rattle.wm_heap.specs.Blobs.{slots_of_bytes, slots_put}
+use Rattle.wm_heap.specs.Draft.{slots_with, slot_size}
 use Rattle.wm_heap.specs.Slots.{slot, slots_bytes, slots_of, used}
 
 length-short : (n : ℕ) → length (to_be_bytes w16 n) ≡ 2
@@ -41,9 +44,23 @@ pub length-used : (slots : List Slot) → length slots ≤ used slots
 length-used [] = omega arith
 length-used (s ∷ slots) = omega (arith, length-used slots)
 
+pub used-append : (slots more : List Slot) → used (slots ++ more) + 2 ≡ used slots + used more
+used-append [] more = omega arith
+used-append (x ∷ slots) more = omega (arith, used-append slots more)
+
 pub used-push : (slots : List Slot) (s : Slot) → used (slots ++ s ∷ []) ≡ used slots + 10 + length s.bytes
-used-push [] s = omega arith
-used-push (x ∷ slots) s = omega (arith, used-push slots s)
+used-push slots s = omega (arith, used-append slots (s ∷ []))
+
+pub used-with : (slots : List Slot) (id : ℕ) (what : Option (List ℕ)) → used (slots_with slots id what) ≡ used slots + slot_size what
+used-with slots id None = omega arith
+used-with slots id (Some bytes) = omega (arith, used-push slots (record { id = id; bytes = bytes }))
+
+pub used-put : (b : Blob) (blobs : List Blob) → used (slots_put (b ∷ blobs)) ≡ slot_size b.bytes + used (slots_put blobs)
+used-put b blobs = by_bytes b.bytes
+  where
+    by_bytes : (o : Option (List ℕ)) → used (slots_of_bytes b.id o ++ slots_put blobs) ≡ slot_size o + used (slots_put blobs)
+    by_bytes None = omega arith
+    by_bytes (Some bytes) = omega arith
 
 pub used-filter : (p : Slot → Bool) (slots : List Slot) → used (filter p slots) ≤ used slots
 used-filter p [] = omega arith

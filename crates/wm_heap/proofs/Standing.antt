@@ -1,5 +1,5 @@
 -- How the pages of a change, and the places of the ids in them, stand after each step.
-use Rattle.std.proofs.Common.{◌≡◌, ℕ, suc, ◌+◌, ◌<◌, ◌≤◌, max, ◌⊎◌, inl, inr, ⊎_elim, Bool, true, false, cond, not, eqb, List, [], ◌∷◌, ◌++◌, length, filter, Option, Some, None, is_some, unwrap_or, Result, Ok, Err, OnOk, refl, sym, ap, subst, ◌∙◌, arith}
+use Rattle.std.proofs.Common.{◌≡◌, ℕ, suc, ◌+◌, ◌-◌, ◌<◌, ◌≤◌, max, ◌⊎◌, inl, inr, ⊎_elim, Bool, true, false, cond, not, eqb, List, [], ◌∷◌, ◌++◌, length, filter, Option, Some, None, is_some, unwrap_or, Result, Ok, Err, OnOk, refl, sym, ap, subst, ◌∙◌, arith}
 use Rattle.std.specs.Option.{option_and_then}
 use Rattle.std.proofs.lemmas.Bool.{cases_lt, eqb-true, eq-eqb}
 use Rattle.wm_base.proofs.Plain.{none_since}
@@ -8,8 +8,9 @@ use Rattle.wm_heap.specs.declared.heap.Heap.{Heap}
 use Rattle.wm_heap.specs.Slots.{used}
 use Rattle.wm_heap.specs.Content.{bytes_at, slots_in}
 use Rattle.wm_heap.specs.Places.{at, ids_on, ids_of, place_of, page_count, Once, IsPlaced}
-use Rattle.wm_heap.specs.Draft.{slots_now, bytes_now, HasRoom, IsThere, Stands, Puts, Grows, Goes, Done, slots_with, place_with}
+use Rattle.wm_heap.specs.Draft.{slots_now, bytes_now, HasRoom, IsThere, Stands, Puts, Grows, Goes, Done, IsLean, slots_with, slot_size, place_with}
 use Rattle.wm_heap.proofs.Finding.{none_is, bytes_at-push, bytes_at-without, Once-push, Once-without}
+use Rattle.wm_heap.proofs.Sizes.{used-filter, used-push, used-least, used-with}
 use Rattle.wm_heap.proofs.Upto.{away}
 
 -- The slots of one page change, and the place of one id: where it was it is no more, and it is on this page or nowhere.
@@ -312,15 +313,6 @@ put_goes page id slots place old new was now puts from till fits room = record {
   none = λ e. absurd cc;
 }
 
-pub goes_then : (a b c : Heap) (x y z : List (ℕ × List Slot)) (id : ℕ) → Goes a b x y id true → Goes b c y z id true → Goes a c x z id true
-goes_then a b c x y z id one two = record {
-  room = two.room;
-  grows = Grows-then (page_count a) (page_count b) (page_count c) x y z one.grows two.grows;
-  others = λ j e. two.others j e ∙ one.others j e;
-  some = λ e. two.some refl;
-  none = λ e. absurd cc;
-}
-
 pub done_then : (a b c : Heap) (x y z : List (ℕ × List Slot)) (held : ℕ → List ℕ) (in_use in_file id : ℕ) (first bytes : Option (List ℕ)) → Done a b x y held in_use in_file id first → Done b c y z held in_use in_file id bytes → Done a c x z held in_use in_file id bytes
 done_then a b c x y z held in_use in_file id first bytes one two = record {
   stands = two.stands;
@@ -386,30 +378,54 @@ pub changed_here : (old new : Heap) (was now : List (ℕ × List Slot)) (held : 
 changed_here old new was now held in_use in_file page id base None stands here base_is puts = dropped old new was now held in_use in_file page id base stands here base_is puts
 changed_here old new was now held in_use in_file page id base (Some bytes) stands here base_is puts = replaced old new was now held in_use in_file page id base bytes stands here base_is puts
 
+-- ---- how many bytes a step puts
+
+-- slots that take no more than so many bytes beyond those that their page had
+lean_puts : (page id : ℕ) (slots : List Slot) (place : Option ℕ) (old new : Heap) (was now : List (ℕ × List Slot)) (held : ℕ → List ℕ) (size : ℕ) → Puts page slots id place old new was now → used slots ≤ used (slots_now was held page) + size
+    → (page_count old ≤ page → 2 < page_count old → 4096 < used (slots_now was held (page_count old - 1)) + size) → IsLean old new was now held size
+lean_puts page id slots place old new was now held size puts fits full = record {
+  more = λ p. subst (λ o. used (unwrap_or o (slots_in held p)) ≤ used (slots_now was held p) + size) (sym (puts.changed p)) (by_page p (eqb p page) refl);
+  full = λ grown some. (let count = puts.count in full (omega arith) some);
+}
+  where
+    by_page : (p : ℕ) (b : Bool) → eqb p page ≡ b → used (unwrap_or (cond b (Some slots) (at was p)) (slots_in held p)) ≤ used (slots_now was held p) + size
+    by_page p true e = subst (λ q. used slots ≤ used (slots_now was held q) + size) (sym (eqb-true p page e)) fits
+    by_page p false e = omega arith
+
+-- bytes for an id that has none, on a page that is there
+pub lean_there : (old new : Heap) (was now : List (ℕ × List Slot)) (held : ℕ → List ℕ) (page id : ℕ) (base : List Slot) (bytes : List ℕ) → page < page_count old → base ≡ slots_now was held page
+    → Puts page (base ++ slot_with id bytes ∷ []) id (Some page) old new was now → IsLean old new was now held (10 + length bytes)
+lean_there old new was now held page id base bytes till base_is puts =
+    lean_puts page id (base ++ slot_with id bytes ∷ []) (Some page) old new was now held (10 + length bytes) puts (omega (arith, used-push base (slot_with id bytes), ap used base_is)) (λ high some. absurd (omega arith))
+
+-- or on a new page
+pub lean_new : (old new : Heap) (was now : List (ℕ × List Slot)) (held : ℕ → List ℕ) (page id : ℕ) (base : List Slot) (bytes : List ℕ) → page ≡ page_count old → base ≡ [] → (2 < page → 4096 < used (slots_now was held (page - 1)) + 10 + length bytes)
+    → Puts page (base ++ slot_with id bytes ∷ []) id (Some page) old new was now → IsLean old new was now held (10 + length bytes)
+lean_new old new was now held page id base bytes is_new base_is full puts =
+    lean_puts page id (base ++ slot_with id bytes ∷ []) (Some page) old new was now held (10 + length bytes) puts (omega (arith, used-push base (slot_with id bytes), ap used base_is, used-least (slots_now was held page)))
+    (λ high some. subst (λ n. 4096 < used (slots_now was held (n - 1)) + (10 + length bytes)) is_new (let t = full (omega arith) in omega arith))
+
+-- other bytes for an id on its page, or none
+pub lean_here : (old new : Heap) (was now : List (ℕ × List Slot)) (held : ℕ → List ℕ) (page id : ℕ) (base : List Slot) (what : Option (List ℕ)) → page < page_count old → base ≡ filter (λ s. not (eqb s.id id)) (slots_now was held page)
+    → Puts page (slots_with base id what) id (place_with page what) old new was now → IsLean old new was now held (slot_size what)
+lean_here old new was now held page id base what till base_is puts =
+    let fewer = used-filter (λ (s : Slot). not (eqb s.id id)) (slots_now was held page) in
+    lean_puts page id (slots_with base id what) (place_with page what) old new was now held (slot_size what) puts (omega (arith, used-with base id what, ap used base_is, fewer)) (λ high some. absurd (omega arith))
+
+-- a step that puts nothing and adds no page, and one behind it
+pub lean_then : (a b c : Heap) (x y z : List (ℕ × List Slot)) (held : ℕ → List ℕ) (size : ℕ) → page_count b ≡ page_count a → IsLean a b x y held 0 → IsLean b c y z held size → IsLean a c x z held size
+lean_then a b c x y z held size same one two = record {
+  more = λ p. (let first = one.more p in let then = two.more p in omega arith);
+  full = λ grown some. (let first = one.more (page_count a - 1) in let then = last (omega arith) some in omega arith);
+}
+  where
+    last : page_count b < page_count c → 2 < page_count a → 4096 < used (slots_now y held (page_count a - 1)) + size
+    last grown some = subst (λ n. 4096 < used (slots_now y held (n - 1)) + size) same (two.full grown (omega arith))
+
 -- what follows from what holds where all went well
 pub then_ok : {T E : Type 0} (r : Result T E) (P Q : Type 0) → (P → Q) → OnOk r P → OnOk r Q
 then_ok (Ok x) P Q f p = f p
 then_ok (Err e) P Q f p = p
-
--- nothing done
-pub nothing_goes : (heap : Heap) (was : List (ℕ × List Slot)) (id : ℕ) → HasRoom was → Goes heap heap was was id false
-nothing_goes heap was id room = record {
-  room = room;
-  grows = Grows-none (page_count heap) was;
-  others = λ j e. refl;
-  some = λ e. absurd cc;
-  none = λ e. refl;
-}
-
-pub nothing_done : (heap : Heap) (was : List (ℕ × List Slot)) (held : ℕ → List ℕ) (in_use in_file id : ℕ) → Stands heap was held in_use in_file → place_of heap id ≡ None → Done heap heap was was held in_use in_file id None
-nothing_done heap was held in_use in_file id stands absent = record {
-  stands = stands;
-  bytes_are = λ j. by_test j (eqb j id) refl;
-}
-  where
-    by_test : (j : ℕ) (b : Bool) → eqb j id ≡ b → bytes_now heap was held j ≡ cond b None (bytes_now heap was held j)
-    by_test j true e = let same = eqb-true j id e in let gone : place_of heap j ≡ None = rw same absent in rw gone refl
-    by_test j false e = refl
 
 -- what is true of pages is true of the same pages
 pub at_pages : (P : (ℕ → List ℕ) → ℕ → ℕ → Type 0) (held there : ℕ → List ℕ) (in_use use_there in_file file_there : ℕ) → there ≡ held → use_there ≡ in_use → file_there ≡ in_file → P there use_there file_there → P held in_use in_file

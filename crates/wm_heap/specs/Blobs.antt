@@ -1,11 +1,14 @@
 -- What is to become of the bytes under some ids.
 use Rattle.std.specs.Prelude.{◌≡◌, ℕ, ◌<◌, ◌≤◌, ◌⊎◌, Bool, true, not, ◌||◌, ◌==◌, if◌then◌else◌, List, [], ◌∷◌, ◌++◌, map, length, slice_index, Option, Some, None, is_some, IfSome}
+use Rattle.std.specs.Bool.{beq}
 use Rattle.std.specs.List.{list_any}
 use Rattle.std.specs.Option.{option_eq}
 use Rattle.std.specs.Str.{bytes_eq}
 use Rattle.wm_spec.specs.Records.{ids_differ}
 use Rattle.wm_heap.specs.declared.blob.Blob.{Blob}
+use Rattle.wm_heap.specs.declared.heap.Read.{Read}
 use Rattle.wm_heap.specs.declared.slot.Slot.{Slot}
+use Rattle.wm_heap.specs.Content.{slots_in}
 
 -- what is said of an id: nothing, or its bytes, which may be none
 abbrev pub blob_at : List Blob → ℕ → Option (Option (List ℕ))
@@ -40,6 +43,10 @@ slots_put (b ∷ blobs) = slots_of_bytes b.id b.bytes ++ slots_put blobs
 abbrev pub change_something : (ℕ → Bool) → List Blob → Bool
 change_something there blobs = list_any (λ b. is_some b.bytes || there b.id) blobs
 
+-- a blob puts bytes under an id that has none, or drops some that are there
+abbrev pub moves : (ℕ → Bool) → Blob → Bool
+moves there b = not (beq (is_some b.bytes) (there b.id))
+
 -- a blob says something else than stands under its id
 abbrev pub alters : (ℕ → Option (List ℕ)) → Blob → Bool
 alters standing b = not (option_eq bytes_eq (standing b.id) b.bytes)
@@ -59,3 +66,7 @@ AreBytes (Some bytes) = (i : ℕ) → slice_index bytes i < 256
 abbrev pub OverBytes : (ℕ → Option (List ℕ)) → List Blob → Type 0
 OverBytes standing [] = Unit {0}
 OverBytes standing (b ∷ blobs) = (is_some b.bytes ≡ true → AreBytes (standing b.id)) × OverBytes standing blobs
+
+-- the page that was read last, if any, has these slots
+abbrev pub WasRead : Option Read → (ℕ → List ℕ) → Type 0
+WasRead last held = IfSome last (λ read. read.slots ≡ slots_in held read.page)

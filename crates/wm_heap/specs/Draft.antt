@@ -1,5 +1,5 @@
 -- A change of the heap on its way: the pages put so far lie over those that the store holds.
-use Rattle.std.specs.Prelude.{◌≡◌, ℕ, suc, ◌<◌, ◌≤◌, ◌⊎◌, max, Bool, true, false, ◌==◌, nat_lt, if◌then◌else◌, List, [], ◌∷◌, ◌++◌, map, length, Option, Some, None, is_some, unwrap_or}
+use Rattle.std.specs.Prelude.{◌≡◌, ℕ, suc, ◌+◌, ◌-◌, ◌<◌, ◌≤◌, ◌⊎◌, max, Bool, true, false, ◌==◌, nat_lt, if◌then◌else◌, List, [], ◌∷◌, ◌++◌, map, length, Option, Some, None, is_some, unwrap_or}
 use Rattle.std.specs.Option.{option_and_then}
 use Rattle.wm_heap.specs.declared.heap.Heap.{Heap}
 use Rattle.wm_heap.specs.declared.slot.Slot.{Slot}
@@ -35,6 +35,11 @@ abbrev pub slots_with : List Slot → ℕ → Option (List ℕ) → List Slot
 slots_with slots id None = slots
 slots_with slots id (Some bytes) = slots ++ record { id = id; bytes = bytes } ∷ []
 
+-- how many bytes of a page the slot of an id takes, where it has bytes
+abbrev pub slot_size : Option (List ℕ) → ℕ
+slot_size None = 0
+slot_size (Some bytes) = 10 + length bytes
+
 -- the place of an id that has these bytes on a page, if any
 abbrev pub place_with : ℕ → Option (List ℕ) → Option ℕ
 place_with page None = None
@@ -69,6 +74,12 @@ pub record Goes (old new : Heap) (was now : List (ℕ × List Slot)) (id : ℕ) 
 pub record Done (old new : Heap) (was now : List (ℕ × List Slot)) (held : ℕ → List ℕ) (in_use in_file id : ℕ) (bytes : Option (List ℕ)) : Type 0 where
   pub stands : Stands new now held in_use in_file
   pub bytes_are : (j : ℕ) → bytes_now new now held j ≡ (if j == id then bytes else bytes_now old was held j)
+
+-- a step that puts so many bytes: no page has more than so many beyond what it had, and one is added only where the last
+-- page had no room for them
+pub record IsLean (old new : Heap) (was now : List (ℕ × List Slot)) (held : ℕ → List ℕ) (size : ℕ) : Type 0 where
+  pub more : (p : ℕ) → used (slots_now now held p) ≤ used (slots_now was held p) + size
+  pub full : page_count old < page_count new → 2 < page_count old → 4096 < used (slots_now was held (page_count old - 1)) + size
 
 -- each page with its slots as bytes
 abbrev pub written : List (ℕ × List Slot) → List (ℕ × List ℕ)

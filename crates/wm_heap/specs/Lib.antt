@@ -4,5 +4,6 @@ pub mod Content
 pub mod Draft
 pub mod Places
 pub mod Plan
+pub mod Room
 pub mod Slots
 pub mod Walk

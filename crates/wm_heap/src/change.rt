@@ -1,9 +1,10 @@
 //! One change of a heap: what is under an id is put where there is room, or taken out.
-ghost use Rattle.std.specs.Prelude.{◌≡◌, ℕ, ◌+◌, ◌<◌, ◌≤◌, true, ◌||◌, ◌==◌, if◌then◌else◌, ◌++◌, ◌∷◌, [], length, Some, None, is_some, IfOk, OnOk, IsErrOf, IfSome};
+ghost use Rattle.std.specs.Prelude.{◌≡◌, ℕ, ◌+◌, ◌-◌, ◌<◌, ◌≤◌, true, ◌||◌, if◌then◌else◌, ◌++◌, ◌∷◌, [], length, Some, None, is_some, IfOk, OnOk, IsErrOf, IfSome};
 ghost use Rattle.wm_base.specs.declared.fault.StoreFault.TheVariants as faults;
 ghost use Rattle.wm_page.specs.Cause.{StoreCause};
-ghost use Rattle.wm_heap.specs.Draft.{HasRoom, Stands, Puts, Goes, Done, slots_with, place_with};
+ghost use Rattle.wm_heap.specs.Draft.{HasRoom, Stands, Puts, Goes, Done, IsLean, slots_now, slots_with, slot_size, place_with};
 ghost use Rattle.wm_heap.specs.Places.{place_of, page_count};
+ghost use Rattle.wm_heap.specs.Room.{Keeps, KnowsRoom, Spreads};
 ghost use Rattle.wm_heap.specs.Slots.{used};
 
 use crate::blob::Blob;
@@ -18,7 +19,7 @@ use wm_base::{Bytes, Memory, StoreFault};
 use wm_page::Pages;
 
 impl Heap {
-    /// Puts these slots on a page, or on a new page behind the last.
+    /// Puts these slots on a page, or on a new page behind the last, since a change of what is under an id.
     #[tactic(auto, using(crate::proofs::Standing::one_more))]
     fn set_slots(
         &mut self,
@@ -26,20 +27,21 @@ impl Heap {
         changed: &mut Changed,
         page: u64,
         slots: Slots,
+        changed_id: u64,
     ) -> Result<(), Memory>
         requires from { 2 ≤ page }
         requires till { page ≤ page_count self.old }
         ensures ok { OnOk result ((id : ℕ) → Puts page slots id (place_of self.old id) self.old self.new changed.old.entries changed.new.entries) }
         ensures places { self.new.places ≡ self.old.places }
+        ensures keeps { OnOk result (Keeps page (4096 - used slots) self.old.room self.new.room) }
         ensures few { OnOk result (length changed.new.entries ≤ length changed.old.entries + 1) }
     {
-        let ids = ids_of_slots(alloc, &slots)?;
-        self.room.keep(page, slots.left())?;
+        self.room.keep(page, slots.left(), changed_id)?;
         let at = (page - 2) as usize;
         if at < self.ids.len() {
-            self.ids[at] = ids;
+            self.ids[at].set(&slots)?;
         } else {
-            self.ids.push(ids)?;
+            self.ids.push(ids_of_slots(alloc, &slots)?)?;
         }
         changed.insert(page, slots)?;
         Ok(())
@@ -58,11 +60,12 @@ impl Heap {
         requires from { 2 ≤ page }
         requires till { page ≤ page_count self.old }
         ensures puts { OnOk result (Puts page (slots ++ (record { id = id; bytes = bytes.now }) ∷ []) id (Some page) self.old self.new changed.old.entries changed.new.entries) }
+        ensures keeps { OnOk result (Keeps page (4096 - used (slots ++ (record { id = id; bytes = bytes.now }) ∷ [])) self.old.room self.new.room) }
         ensures few { OnOk result (length changed.new.entries ≤ length changed.old.entries + 1) }
     {
         let mut slots = slots;
         slots.push(slot_of(alloc, id, bytes)?)?;
-        self.set_slots(alloc, changed, page, slots)?;
+        self.set_slots(alloc, changed, page, slots, id)?;
         set_page_of(&mut self.places, id, page)?;
         Ok(())
     }
@@ -82,6 +85,8 @@ impl Heap {
         requires stands { G.tells → Stands self.old changed.old.entries (G.held pages.old) (G.in_use pages.old) (G.in_file pages.old) }
         ensures goes { OnOk result (Goes self.old self.new changed.old.entries changed.new.entries id true) }
         ensures done { G.tells → OnOk result (Done self.old self.new changed.old.entries changed.new.entries (G.held pages.old) (G.in_use pages.old) (G.in_file pages.old) id (Some bytes.now)) }
+        ensures lean { G.tells → OnOk result (IsLean self.old self.new changed.old.entries changed.new.entries (G.held pages.old) (slot_size (Some bytes.now))) }
+        ensures spread { G.tells → KnowsRoom self.old.room (slots_now changed.old.entries (G.held pages.old)) (page_count self.old) → OnOk result (Spreads self.old self.new changed.old.entries changed.new.entries (G.held pages.old) (slot_size (Some bytes.now))) }
         ensures few { OnOk result (length changed.new.entries ≤ length changed.old.entries + 1) }
         ensures told { G.tells → G.held pages.new ≡ G.held pages.old }
         ensures past { G.tells → G.past pages.new ≡ G.past pages.old }
@@ -113,15 +118,25 @@ impl Heap {
         requires from { 2 ≤ page }
         requires till { page ≤ page_count self.old }
         ensures puts { OnOk result (Puts page slots id None self.old self.new changed.old.entries changed.new.entries) }
+        ensures keeps { OnOk result (Keeps page (4096 - used slots) self.old.room self.new.room) }
         ensures few { OnOk result (length changed.new.entries ≤ length changed.old.entries + 1) }
     {
-        self.set_slots(alloc, changed, page, slots)?;
+        self.set_slots(alloc, changed, page, slots, id)?;
         clear_page_of(&mut self.places, id);
         Ok(())
     }
 
-    /// Puts bytes under an id behind the slots of a page, which have none under it, where the page has room for them;
-    /// else nothing is under the id. Whether that is all of the change.
+    /// Whether so many bytes that are put again under an id stay on their page, which has these other slots: they fit, and
+    /// do not go along. What changes with each line, as the counters do, goes along to the page that takes what is new, and
+    /// a line mostly writes one page in place of two.
+    fn stays(&self, id: u64, page: u64, slots: &Slots, len: usize) -> bool
+        ensures { result ≡ true → used slots.now + 10 + len ≤ 4096 }
+    {
+        slots.fit_with(len) && !self.room.goes_along(id, page, 10 + len)
+    }
+
+    /// Puts bytes under an id behind the slots of a page, which have none under it, where they stay there; else nothing
+    /// is under the id. Whether that is all of the change.
     fn change_here(
         &mut self,
         alloc: Global,
@@ -135,13 +150,14 @@ impl Heap {
         requires fits { used slots ≤ 4096 }
         ensures room { IfOk result (λ all. used (slots_with slots blob.now.id (if all then blob.now.bytes else None)) ≤ 4096) }
         ensures puts { IfOk result (λ all. Puts page (slots_with slots blob.now.id (if all then blob.now.bytes else None)) blob.now.id (place_with page (if all then blob.now.bytes else None)) self.old self.new changed.old.entries changed.new.entries) }
+        ensures keeps { IfOk result (λ all. Keeps page (4096 - used (slots_with slots blob.now.id (if all then blob.now.bytes else None))) self.old.room self.new.room) }
         ensures few { OnOk result (length changed.new.entries ≤ length changed.old.entries + 1) }
     {
         let Some(bytes) = &blob.bytes else {
             self.take_out(alloc, changed, page, slots, blob.id)?;
             return Ok(true);
         };
-        if slots.fit_with(bytes.len()) {
+        if self.stays(blob.id, page, &slots, bytes.len()) {
             self.put_behind(alloc, changed, page, slots, blob.id, bytes)?;
             return Ok(true);
         }
@@ -149,7 +165,7 @@ impl Heap {
         Ok(false)
     }
 
-    /// Puts or drops what is under an id of a page: on the same page where there is room.
+    /// Puts or drops what is under an id of a page: on the same page where it stays there.
     fn change_on<G: Pages>(
         &mut self,
         alloc: Global,
@@ -164,6 +180,8 @@ impl Heap {
         requires stands { G.tells → Stands self.old changed.old.entries (G.held pages.old) (G.in_use pages.old) (G.in_file pages.old) }
         ensures goes { OnOk result (Goes self.old self.new changed.old.entries changed.new.entries blob.now.id true) }
         ensures done { G.tells → OnOk result (Done self.old self.new changed.old.entries changed.new.entries (G.held pages.old) (G.in_use pages.old) (G.in_file pages.old) blob.now.id blob.now.bytes) }
+        ensures lean { G.tells → OnOk result (IsLean self.old self.new changed.old.entries changed.new.entries (G.held pages.old) (slot_size blob.now.bytes)) }
+        ensures spread { G.tells → KnowsRoom self.old.room (slots_now changed.old.entries (G.held pages.old)) (page_count self.old) → OnOk result (Spreads self.old self.new changed.old.entries changed.new.entries (G.held pages.old) (slot_size blob.now.bytes)) }
         ensures few { OnOk result (length changed.new.entries ≤ length changed.old.entries + 2) }
         ensures told { G.tells → G.held pages.new ≡ G.held pages.old }
         ensures past { G.tells → G.past pages.new ≡ G.past pages.old }
@@ -202,6 +220,8 @@ impl Heap {
         requires stands { G.tells → Stands self.old changed.old.entries (G.held pages.old) (G.in_use pages.old) (G.in_file pages.old) }
         ensures goes { OnOk result (Goes self.old self.new changed.old.entries changed.new.entries blob.now.id (is_some blob.now.bytes || is_some (place_of self.old blob.now.id))) }
         ensures done { G.tells → OnOk result (Done self.old self.new changed.old.entries changed.new.entries (G.held pages.old) (G.in_use pages.old) (G.in_file pages.old) blob.now.id blob.now.bytes) }
+        ensures lean { G.tells → OnOk result (IsLean self.old self.new changed.old.entries changed.new.entries (G.held pages.old) (slot_size blob.now.bytes)) }
+        ensures spread { G.tells → KnowsRoom self.old.room (slots_now changed.old.entries (G.held pages.old)) (page_count self.old) → OnOk result (Spreads self.old self.new changed.old.entries changed.new.entries (G.held pages.old) (slot_size blob.now.bytes)) }
         ensures few { OnOk result (length changed.new.entries ≤ length changed.old.entries + 2) }
         ensures told { G.tells → G.held pages.new ≡ G.held pages.old }
         ensures past { G.tells → G.past pages.new ≡ G.past pages.old }

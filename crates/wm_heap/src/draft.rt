@@ -49,8 +49,8 @@ pub fn take_slots<G: Pages>(
     }
 }
 
-/// The slots of a page by now, where they leave room for a slot of so many bytes. Those that were put there are taken
-/// out. Else nothing is taken out.
+/// The slots of a page by now, exactly where they leave room for a slot of so many bytes. Those that were put there are
+/// taken out. Else nothing is taken out.
 pub fn take_fitting<G: Pages>(
     alloc: Global,
     changed: &mut Changed,
@@ -60,6 +60,7 @@ pub fn take_fitting<G: Pages>(
 ) -> Result<Option<Slots>, StoreFault>
     ensures value { G.tells → IfOk result (λ found. IfSome found (λ slots. slots ≡ slots_now changed.old.entries (G.held pages.old) page)) }
     ensures room { IfOk result (λ found. IfSome found (λ slots. used slots + 10 + len ≤ 4096)) }
+    ensures none { G.tells → IfOk result (λ found. found ≡ None → 4096 < used (slots_now changed.old.entries (G.held pages.old) page) + 10 + len) }
     ensures others { (p : ℕ) → (p == page) ≡ false → at changed.new.entries p ≡ at changed.old.entries p }
     ensures fewer { length changed.new.entries ≤ length changed.old.entries }
     ensures kept { IfOk result (λ found. found ≡ None → changed.new.entries ≡ changed.old.entries) }

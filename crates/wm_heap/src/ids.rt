@@ -1,5 +1,5 @@
 //! The ids of a page's slots.
-ghost use Rattle.std.specs.Prelude.{◌≡◌, IfOk};
+ghost use Rattle.std.specs.Prelude.{◌≡◌, ◌+◌, ◌^◌, ◌<◌, ◌≤◌, ◌++◌, ◌∷◌, [], length, take, IfOk, OnOk};
 ghost use Rattle.wm_heap.specs.Places.{ids_of};
 
 use crate::slot::Slots;
@@ -28,15 +28,46 @@ impl Ids {
     {
         self.list.as_slice()
     }
+
+    /// They become the ids of the slots, in order. Their room is used again, and no more is taken than they need: most
+    /// pages stay as they are.
+    pub fn set(&mut self, slots: &Slots) -> Result<(), Memory>
+        ensures { OnOk result (self.new ≡ ids_of slots.now) }
+    {
+        let more = slots.len().saturating_sub(self.list.len());
+        self.list.reserve_exact(more)?;
+        let mut count = 0;
+        for slot in slots.iter() {
+            put_at(&mut self.list, count, slot.id)?;
+            count += 1;
+        }
+        self.list.truncate(count);
+        Ok(())
+    }
+}
+
+/// Puts an id in a place, or behind the others.
+fn put_at(ids: &mut Vec<u64>, place: usize, id: u64) -> Result<(), Memory>
+    requires { place ≤ length ids.old.items }
+    ensures put { OnOk result (take (place + 1) ids.new.items ≡ take place ids.old.items ++ id ∷ []) }
+    ensures within { OnOk result (place < length ids.new.items) }
+    ensures fits { OnOk result (place + 1 < 2 ^ 64) }
+{
+    if place < ids.len() {
+        ids[place] = id;
+    } else {
+        ids.push(id)?;
+    }
+    Ok(())
 }
 
 /// The ids of the slots, in order.
 pub fn ids_of_slots(alloc: Global, slots: &Slots) -> Result<Ids, Memory>
     ensures { IfOk result (λ ids. ids ≡ ids_of slots.now) }
 {
-    let mut list = Vec::with_capacity(alloc, slots.len())?;
-    for slot in slots.iter() {
-        list.push(slot.id)?;
-    }
-    Ok(Ids { list })
+    let mut ids = Ids {
+        list: Vec::new(alloc),
+    };
+    ids.set(slots)?;
+    Ok(ids)
 }

@@ -4,7 +4,9 @@ ghost use Rattle.wm_base.specs.declared.fault.OpenFault.TheVariants as faults;
 ghost use Rattle.wm_heap.specs.Asking.{Finds, FindsTwice};
 ghost use Rattle.wm_heap.specs.Content.{bytes_at, is_twice, damage_on, fault_of, slots_in};
 ghost use Rattle.wm_heap.specs.Places.{at, ids_of, page_count, place_of, IsHeapOf};
+ghost use Rattle.wm_heap.specs.Room.{KnowsRoom};
 ghost use Rattle.wm_heap.specs.Slots.{slots_of, page_of, used};
+ghost use Rattle.wm_heap.specs.declared.slot.Slot.{Slot};
 ghost use Rattle.wm_heap.specs.Blobs.{AreBlobs, slots_put};
 ghost use Rattle.wm_heap.specs.Plan.{root_of};
 ghost use Rattle.wm_page.specs.Batch.{entries};
@@ -82,6 +84,7 @@ impl Heap {
     pub fn new(alloc: Global) -> Heap
         ensures count { page_count result ≡ 2 }
         ensures heap { (held : ℕ → List ℕ) → IsHeapOf result held 2 }
+        ensures room { (slots : ℕ → List Slot) → KnowsRoom result.room slots 2 }
     {
         Heap {
             ids: Vec::new(alloc),
@@ -95,12 +98,13 @@ impl Heap {
         ensures ok { OnOk result (is_twice (λ id. is_some (place_of self.old id)) slots.now ≡ false) }
         ensures placed { OnOk result ((id : ℕ) → place_of self.new id ≡ (if is_some (bytes_at slots.now id) then Some page else place_of self.old id)) }
         ensures ids { OnOk result (self.new.ids.items ≡ self.old.ids.items ++ ids_of slots.now ∷ []) }
+        ensures room { OnOk result ((all : ℕ → List Slot) → all page ≡ slots.now → 2 ≤ page → KnowsRoom self.old.room all page → KnowsRoom self.new.room all (page + 1)) }
         ensures twice { IfErr result (λ e. FindsTwice e page (is_twice (λ id. is_some (place_of self.old id)) slots.now)) }
     {
         place_all(&mut self.places, page, slots)?;
         self.ids.push(ids_of_slots(alloc, slots)?)?;
         self.room.prefer(page);
-        self.room.keep(page, slots.left())?;
+        self.room.keep(page, slots.left(), 0)?;
         Ok(())
     }
 
@@ -114,6 +118,7 @@ impl Heap {
         ensures count { OnOk result (page_count self.new ≡ page_count self.old + 1) }
         ensures whole { OnOk result (page_count self.old < G.in_file pages.old) }
         ensures heap { G.tells → OnOk result (IsHeapOf self.new (G.held pages.old) (page_count self.new)) }
+        ensures room { G.tells → KnowsRoom self.old.room (slots_in (G.held pages.old)) (page_count self.old) → OnOk result (KnowsRoom self.new.room (slots_in (G.held pages.old)) (page_count self.new)) }
         ensures undamaged { G.tells → OnOk result (fault_of (G.held pages.old) (page_count self.new) (G.in_file pages.old) ≡ None) }
         ensures fault { G.tells → IfErr result (λ e. Finds e (fault_of (G.held pages.old) (G.in_use pages.old) (G.in_file pages.old))) }
         ensures store { IsErrOf result faults.NotStore → ⊥ }
@@ -133,6 +138,7 @@ impl Heap {
     /// Where the records of a store stand, after each page was tested. It serves where no slots are wanted besides.
     pub fn load<G: Pages>(alloc: Global, pages: &mut G) -> Result<Heap, OpenFault>
         ensures heap { G.tells → IfOk result (λ heap. IsHeapOf heap (G.held pages.old) (G.in_use pages.old)) }
+        ensures room { G.tells → IfOk result (λ heap. KnowsRoom heap.room (slots_in (G.held pages.old)) (page_count heap)) }
         ensures count { IfOk result (λ heap. length heap.ids.items ≡ G.in_use pages.old - 2) }
         ensures whole { OnOk result ((p : ℕ) → 2 ≤ p → p < G.in_use pages.old → p < G.in_file pages.old) }
         ensures undamaged { G.tells → OnOk result (fault_of (G.held pages.old) (G.in_use pages.old) (G.in_file pages.old) ≡ None) }
@@ -160,6 +166,7 @@ impl Heap {
         ensures root { OnOk result (number_at (root_of 3) 0 ≡ 3) }
         ensures again { OnOk result (slots_of (page_of (slots_put batch.now)) ≡ Some (slots_put batch.now)) }
         ensures heap { IfOk result (λ r. (held : ℕ → List ℕ) → held 2 ≡ page_of (slots_put batch.now) → IsHeapOf r.0 held 3) }
+        ensures room { IfOk result (λ r. (held : ℕ → List ℕ) → held 2 ≡ page_of (slots_put batch.now) → KnowsRoom r.0.room (slots_in held) 3) }
         ensures sound { OnOk result ((held : ℕ → List ℕ) (whole : ℕ) → held 2 ≡ page_of (slots_put batch.now) → 3 ≤ whole → fault_of held 3 whole ≡ None) }
     {
         let slots = slots_of_blobs(alloc, batch.as_slice())?;
@@ -169,7 +176,7 @@ impl Heap {
         ids.push(ids_of_slots(alloc, &slots)?)?;
         let mut room = Room::new(alloc);
         room.prefer(2);
-        room.keep(2, slots.left())?;
+        room.keep(2, slots.left(), 0)?;
         let pages = first_pages(alloc, &slots)?;
         Ok((Heap { ids, places, room }, pages))
     }

@@ -15,7 +15,7 @@ pub struct SlotRef<'a> {
 }
 
 /// The slot that bytes begin with, and the bytes behind it. None where it runs past their end.
-pub fn slot_at(bytes: &[u8]) -> Option<(SlotRef<'_>, &[u8])>
+pub(crate) fn slot_at(bytes: &[u8]) -> Option<(SlotRef<'_>, &[u8])>
     ensures { option_map (λ x. (slot_seen x.0, x.1.now)) result ≡ slot.read bytes.now }
 {
     let (id, rest) = bytes.split_first_chunk::<8>()?;
@@ -44,7 +44,7 @@ impl<'a> Model for SlotIter<'a> {
 
 impl<'a> SlotIter<'a> {
     /// The slots that bytes begin with, up to so many.
-    pub fn new(left: usize, rest: &'a [u8]) -> SlotIter<'a>
+    pub(crate) fn new(left: usize, rest: &'a [u8]) -> SlotIter<'a>
         ensures { result ≡ slots_at left rest.now }
     {
         SlotIter { left, rest }
@@ -58,6 +58,8 @@ impl<'a> Iterator for SlotIter<'a> {
 
     ghost remaining = { item_count (λ slots. slots) };
 
+    // Each change of a page walks all of its slots.
+    #[inline(always)]
     fn next(&mut self) -> Option<SlotRef<'a>> {
         if self.left == 0 {
             return None;

@@ -1,8 +1,8 @@
-use Rattle.std.proofs.Common.{◌≡◌, true, ◌++◌, ◌∷◌, [], is_some, sym, subst, ◌∙◌}
-use Rattle.wm_heap.specs.Blobs.{alters, AreBytes, AreSomeOf}
+use Rattle.std.proofs.Common.{◌++◌, ◌∷◌, [], is_some, sym, subst, ◌∙◌}
+use Rattle.wm_heap.specs.Blobs.{WasRead}
 use Rattle.wm_heap.specs.Content.{bytes_at, content}
-use Rattle.wm_heap.proofs.Altering.{some_pushed, some_skipped, filter_pushed, filter_skipped, OverBytes-push}
-use Rattle.wm_heap.proofs.Standing.{at_pages}
+use Rattle.wm_heap.specs.Places.{place_of}
+use Rattle.wm_heap.proofs.Altering.{Leaving, Altered, leaving_pushed, leaving_skipped, standing_same, altered_pushed, altered_skipped}
 use Rattle.wm_heap.proofs.heap.Heap.altering.Goals as goal
 
 pub loop-blob-preserved-in-Continue-branch-2 : goal.loop-blob-preserved-in-Continue-branch-2
@@ -10,20 +10,17 @@ loop-blob-preserved-in-Continue-branch-2 g c =
     let inv = c.loop-blob.invariant in
     let did = c.in_ok-alters.ensures in
     record {
-      some = subst (λ l. AreSomeOf l (c.loop-blob.yielded ++ c.in-Some.blob ∷ [])) (sym c.in_ok-push.ensures.ok) (some_pushed c.loop-blob.left c.loop-blob.yielded c.in-Some.blob inv.some);
+      leaving = subst (λ l. Leaving (λ id. is_some (place_of c.args.self.now id)) l (c.loop-blob.yielded ++ c.in-Some.blob ∷ [])) (sym c.in_ok-push.ensures.ok) (leaving_pushed _ _ _ c.in-Some.blob inv.leaving);
       told = λ t. did.told t ∙ inv.told t;
       past = λ t. did.past t ∙ inv.past t;
       source = did.source ∙ inv.source;
       in_use = did.in_use ∙ inv.in_use;
       in_file = did.in_file ∙ inv.in_file;
       faults = did.cause.done ∙ inv.faults;
-      altering = λ t.
-          c.in_ok-push.ensures.ok
-          ∙ filter_pushed (alters (bytes_at (content (g.G.Pages.held c.args.pages.now) (g.G.Pages.in_use c.args.pages.now)))) c.loop-blob.left c.loop-blob.yielded c.in-Some.blob (inv.altering t)
-          (sym (at_pages (λ h u f. c.in_ok-alters.field-0 ≡ alters (bytes_at (content h u)) c.in-Some.blob) (g.G.Pages.held c.args.pages.now) (g.G.Pages.held c.loop-blob.pages) (g.G.Pages.in_use c.args.pages.now) (g.G.Pages.in_use c.loop-blob.pages) (g.G.Pages.in_file c.args.pages.now) (g.G.Pages.in_file c.loop-blob.pages) (inv.told t) inv.in_use inv.in_file (did.alters t)) ∙ c.if-branch.true);
-      read = λ t.
-          OverBytes-push (bytes_at (content (g.G.Pages.held c.args.pages.now) (g.G.Pages.in_use c.args.pages.now))) c.loop-blob.yielded c.in-Some.blob (inv.read t)
-          (at_pages (λ h u f. is_some c.in-Some.blob.bytes ≡ true → AreBytes (bytes_at (content h u) c.in-Some.blob.id)) (g.G.Pages.held c.args.pages.now) (g.G.Pages.held c.loop-blob.pages) (g.G.Pages.in_use c.args.pages.now) (g.G.Pages.in_use c.loop-blob.pages) (g.G.Pages.in_file c.args.pages.now) (g.G.Pages.in_file c.loop-blob.pages) (inv.told t) inv.in_use inv.in_file (did.read t));
+      altered = λ t.
+          subst (λ l. Altered (bytes_at (content (g.G.Pages.held c.args.pages.now) (g.G.Pages.in_use c.args.pages.now))) l (c.loop-blob.yielded ++ c.in-Some.blob ∷ [])) (sym c.in_ok-push.ensures.ok)
+          (altered_pushed _ _ _ _ c.in-Some.blob c.in_ok-alters.field-0 (standing_same _ _ _ _ (inv.told t) inv.in_use) (inv.altered t) (did.alters t) (did.read t) c.if-branch.true);
+      last = λ t. subst (WasRead c.alters.new.last) (inv.told t) (did.last t);
     }
 
 pub loop-blob-preserved-else-branch : goal.loop-blob-preserved-else-branch
@@ -31,19 +28,15 @@ loop-blob-preserved-else-branch g c =
     let inv = c.loop-blob.invariant in
     let did = c.in_ok-alters.ensures in
     record {
-      some = some_skipped c.loop-blob.left c.loop-blob.yielded c.in-Some.blob inv.some;
+      leaving = leaving_skipped _ _ _ c.in-Some.blob c.in_ok-alters.field-0 inv.leaving did.moved c.if-branch.false;
       told = λ t. did.told t ∙ inv.told t;
       past = λ t. did.past t ∙ inv.past t;
       source = did.source ∙ inv.source;
       in_use = did.in_use ∙ inv.in_use;
       in_file = did.in_file ∙ inv.in_file;
       faults = did.cause.done ∙ inv.faults;
-      altering = λ t.
-          filter_skipped (alters (bytes_at (content (g.G.Pages.held c.args.pages.now) (g.G.Pages.in_use c.args.pages.now)))) c.loop-blob.left c.loop-blob.yielded c.in-Some.blob (inv.altering t)
-          (sym (at_pages (λ h u f. c.in_ok-alters.field-0 ≡ alters (bytes_at (content h u)) c.in-Some.blob) (g.G.Pages.held c.args.pages.now) (g.G.Pages.held c.loop-blob.pages) (g.G.Pages.in_use c.args.pages.now) (g.G.Pages.in_use c.loop-blob.pages) (g.G.Pages.in_file c.args.pages.now) (g.G.Pages.in_file c.loop-blob.pages) (inv.told t) inv.in_use inv.in_file (did.alters t)) ∙ c.if-branch.false);
-      read = λ t.
-          OverBytes-push (bytes_at (content (g.G.Pages.held c.args.pages.now) (g.G.Pages.in_use c.args.pages.now))) c.loop-blob.yielded c.in-Some.blob (inv.read t)
-          (at_pages (λ h u f. is_some c.in-Some.blob.bytes ≡ true → AreBytes (bytes_at (content h u) c.in-Some.blob.id)) (g.G.Pages.held c.args.pages.now) (g.G.Pages.held c.loop-blob.pages) (g.G.Pages.in_use c.args.pages.now) (g.G.Pages.in_use c.loop-blob.pages) (g.G.Pages.in_file c.args.pages.now) (g.G.Pages.in_file c.loop-blob.pages) (inv.told t) inv.in_use inv.in_file (did.read t));
+      altered = λ t. altered_skipped _ _ _ _ c.in-Some.blob c.in_ok-alters.field-0 (standing_same _ _ _ _ (inv.told t) inv.in_use) (inv.altered t) (did.alters t) (did.read t) c.if-branch.false;
+      last = λ t. subst (WasRead c.alters.new.last) (inv.told t) (did.last t);
     }
 
 pub loop-blob-preserved : goal.loop-blob-preserved
@@ -51,17 +44,13 @@ loop-blob-preserved g c =
     let inv = c.loop-blob.invariant in
     let did = c.in_ok-alters.ensures in
     record {
-      some = some_skipped c.loop-blob.left c.loop-blob.yielded c.in-Some.blob inv.some;
+      leaving = leaving_skipped _ _ _ c.in-Some.blob c.in_ok-alters.field-0 inv.leaving did.moved c.if-branch.false;
       told = λ t. did.told t ∙ inv.told t;
       past = λ t. did.past t ∙ inv.past t;
       source = did.source ∙ inv.source;
       in_use = did.in_use ∙ inv.in_use;
       in_file = did.in_file ∙ inv.in_file;
       faults = did.cause.done ∙ inv.faults;
-      altering = λ t.
-          filter_skipped (alters (bytes_at (content (g.G.Pages.held c.args.pages.now) (g.G.Pages.in_use c.args.pages.now)))) c.loop-blob.left c.loop-blob.yielded c.in-Some.blob (inv.altering t)
-          (sym (at_pages (λ h u f. c.in_ok-alters.field-0 ≡ alters (bytes_at (content h u)) c.in-Some.blob) (g.G.Pages.held c.args.pages.now) (g.G.Pages.held c.loop-blob.pages) (g.G.Pages.in_use c.args.pages.now) (g.G.Pages.in_use c.loop-blob.pages) (g.G.Pages.in_file c.args.pages.now) (g.G.Pages.in_file c.loop-blob.pages) (inv.told t) inv.in_use inv.in_file (did.alters t)) ∙ c.if-branch.false);
-      read = λ t.
-          OverBytes-push (bytes_at (content (g.G.Pages.held c.args.pages.now) (g.G.Pages.in_use c.args.pages.now))) c.loop-blob.yielded c.in-Some.blob (inv.read t)
-          (at_pages (λ h u f. is_some c.in-Some.blob.bytes ≡ true → AreBytes (bytes_at (content h u) c.in-Some.blob.id)) (g.G.Pages.held c.args.pages.now) (g.G.Pages.held c.loop-blob.pages) (g.G.Pages.in_use c.args.pages.now) (g.G.Pages.in_use c.loop-blob.pages) (g.G.Pages.in_file c.args.pages.now) (g.G.Pages.in_file c.loop-blob.pages) (inv.told t) inv.in_use inv.in_file (did.read t));
+      altered = λ t. altered_skipped _ _ _ _ c.in-Some.blob c.in_ok-alters.field-0 (standing_same _ _ _ _ (inv.told t) inv.in_use) (inv.altered t) (did.alters t) (did.read t) c.if-branch.false;
+      last = λ t. subst (WasRead c.alters.new.last) (inv.told t) (did.last t);
     }

@@ -13,14 +13,14 @@ returns-in_default-clause-puts c =
     subst (λ (o : Option (List ℕ)). Puts c.args.page (slots_with c.args.slots c.args.blob.now.id o) c.args.blob.now.id (place_with c.args.page o) c.args.self.now c.take_out.new.self c.args.changed.now.entries c.take_out.new.changed.entries)
     (sym c.in_default.is) c.in_ok-take_out.ensures.puts
 
-pub returns-then-fit_with-clause-room : goal.returns-then-fit_with-clause-room
-returns-then-fit_with-clause-room c =
-    let fits = c.fit_with.ensures.yes c.if-fit_with.true in
+pub returns-then-stays-clause-room : goal.returns-then-stays-clause-room
+returns-then-stays-clause-room c =
+    let fits = c.stays.ensures c.if-stays.true in
     let len = c.len.ensures.value in
     let size = used-push c.args.slots (slot_with c.args.blob.now.id c.in-Some.bytes) in
     subst (λ (o : Option (List ℕ)). used (slots_with c.args.slots c.args.blob.now.id o) ≤ 4096) (sym c.in-Some.is) (omega (arith, fits, len, size))
 
-pub returns-then-fit_with-clause-puts : goal.returns-then-fit_with-clause-puts
-returns-then-fit_with-clause-puts c =
+pub returns-then-stays-clause-puts : goal.returns-then-stays-clause-puts
+returns-then-stays-clause-puts c =
     subst (λ (o : Option (List ℕ)). Puts c.args.page (slots_with c.args.slots c.args.blob.now.id o) c.args.blob.now.id (place_with c.args.page o) c.args.self.now c.put_behind.new.self c.args.changed.now.entries c.put_behind.new.changed.entries)
     (sym c.in-Some.is) c.in_ok-put_behind.ensures.puts

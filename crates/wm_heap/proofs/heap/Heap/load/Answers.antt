@@ -1,8 +1,9 @@
 use Rattle.std.proofs.Common.{◌≡◌, ◌<◌, ◌+◌, None, refl, sym, ap, subst, ◌∙◌, arith}
 use Rattle.std.proofs.lemmas.Result.{err_from_is_err_and}
 use Rattle.wm_heap.specs.Asking.{Finds}
-use Rattle.wm_heap.specs.Content.{fault_of}
+use Rattle.wm_heap.specs.Content.{fault_of, slots_in}
 use Rattle.wm_heap.specs.Places.{page_count, IsHeapOf}
+use Rattle.wm_heap.specs.Room.{KnowsRoom}
 use Rattle.wm_heap.proofs.Loading.{heap_all, whole_more}
 use Rattle.wm_heap.proofs.heap.Heap.load.Goals as goal
 
@@ -18,6 +19,7 @@ loop-init g c = record {
   in_file = refl;
   faults = refl;
   heap = λ t. subst (IsHeapOf c.new-heap.result (g.G.Pages.held c.args.pages.now)) (sym c.new-heap.ensures.count) (c.new-heap.ensures.heap (g.G.Pages.held c.args.pages.now));
+  room = λ t. subst (KnowsRoom c.new-heap.result.room (slots_in (g.G.Pages.held c.args.pages.now))) (sym c.new-heap.ensures.count) (c.new-heap.ensures.room (slots_in (g.G.Pages.held c.args.pages.now)));
   sound = λ t. ap (λ n. fault_of (g.G.Pages.held c.args.pages.now) n (g.G.Pages.in_file c.args.pages.now)) c.new-heap.ensures.count;
 }
 
@@ -57,6 +59,9 @@ loop-preserved g c =
       in_file = did.in_file ∙ inv.in_file;
       faults = did.cause.done ∙ inv.faults;
       heap = λ t. subst (λ held. IsHeapOf c.load_page.new.self held (page_count c.load_page.new.self)) (inv.told t) (did.heap t);
+      room = λ t.
+          subst (λ held. KnowsRoom c.load_page.new.self.room (slots_in held) (page_count c.load_page.new.self)) (inv.told t)
+          (did.room t (subst (λ held. KnowsRoom c.loop.heap.room (slots_in held) (page_count c.loop.heap)) (sym (inv.told t)) (inv.room t)));
       sound = λ t.
           subst (λ n. fault_of (g.G.Pages.held c.args.pages.now) (page_count c.load_page.new.self) n ≡ None) inv.in_file
           (subst (λ held. fault_of held (page_count c.load_page.new.self) (g.G.Pages.in_file c.loop.pages) ≡ None) (inv.told t) (did.undamaged t));

@@ -1,7 +1,9 @@
-use Rattle.std.proofs.Common.{◌<◌, ◌≤◌, length, get_or, refl, ap, subst, ◌∙◌, arith}
-use Rattle.wm_heap.specs.Draft.{Done}
+use Rattle.std.proofs.Common.{◌<◌, ◌≤◌, length, get_or, refl, sym, ap, subst, ◌∙◌, arith}
+use Rattle.wm_heap.specs.Draft.{Done, IsLean, slot_size, slots_now}
+use Rattle.wm_heap.specs.Places.{page_count}
+use Rattle.wm_heap.specs.Room.{KnowsRoom, Spreads}
 use Rattle.wm_heap.proofs.Standing.{at_pages}
-use Rattle.wm_heap.proofs.Planning.{going_begun, going_on, telling_begun, telling_on, planned, planned_few, planned_none, planned_told}
+use Rattle.wm_heap.proofs.Planning.{going_begun, going_on, leaning_begun, leaning_on, spreading_begun, spreading_on, telling_begun, telling_on, planned, planned_few, planned_knows, planned_lean, planned_none, planned_spread, planned_told}
 use Rattle.wm_heap.proofs.heap.Heap.plan.Goals as goal
 
 pub loop-blob-init : goal.loop-blob-init
@@ -16,6 +18,8 @@ loop-blob-init g c = record {
   in_file = refl;
   faults = refl;
   telling = λ t. telling_begun c.args.self.now c.new-changed.result.entries (g.G.Pages.held c.args.pages.now) (g.G.Pages.in_use c.args.pages.now) (g.G.Pages.in_file c.args.pages.now) c.args.batch.now c.new-changed.ensures.empty (c.requires.heap t) (c.requires.whole t);
+  leaning = λ t. leaning_begun c.args.self.now c.new-changed.result.entries (g.G.Pages.held c.args.pages.now) c.args.batch.now c.new-changed.ensures.empty;
+  spreading = λ t knows. spreading_begun c.args.self.now c.new-changed.result.entries (g.G.Pages.held c.args.pages.now) c.args.batch.now c.new-changed.ensures.empty knows;
 }
 
 pub loop-blob-preserved : goal.loop-blob-preserved
@@ -39,6 +43,14 @@ loop-blob-preserved g c =
           telling_on c.loop-blob.self c.change.new.self c.loop-blob.changed.entries c.change.new.changed.entries (g.G.Pages.held c.args.pages.now) (g.G.Pages.in_use c.args.pages.now) (g.G.Pages.in_file c.args.pages.now) c.args.batch.now c.loop-blob.blob-index c.blob-item.result within is inv.going.once (inv.telling t)
           (at_pages (λ h u f. Done c.loop-blob.self c.change.new.self c.loop-blob.changed.entries c.change.new.changed.entries h u f c.blob-item.result.id c.blob-item.result.bytes) (g.G.Pages.held c.args.pages.now) (g.G.Pages.held c.loop-blob.pages) (g.G.Pages.in_use c.args.pages.now) (g.G.Pages.in_use c.loop-blob.pages) (g.G.Pages.in_file c.args.pages.now) (g.G.Pages.in_file c.loop-blob.pages)
           (inv.told t) inv.in_use inv.in_file (did.done t));
+      leaning = λ t.
+          leaning_on c.args.self.now c.loop-blob.self c.change.new.self c.loop-blob.changed.entries c.change.new.changed.entries (g.G.Pages.held c.args.pages.now) c.args.batch.now c.loop-blob.blob-index c.blob-item.result within is inv.going.grows.no_fewer (inv.leaning t)
+          (subst (λ h. IsLean c.loop-blob.self c.change.new.self c.loop-blob.changed.entries c.change.new.changed.entries h (slot_size c.blob-item.result.bytes)) (inv.told t) (did.lean t));
+      spreading = λ t knows.
+          let before = inv.spreading t knows in
+          spreading_on c.args.self.now c.loop-blob.self c.change.new.self c.loop-blob.changed.entries c.change.new.changed.entries (g.G.Pages.held c.args.pages.now) c.args.batch.now c.loop-blob.blob-index c.blob-item.result within is inv.going.grows.no_fewer (inv.leaning t) before
+          (subst (λ h. Spreads c.loop-blob.self c.change.new.self c.loop-blob.changed.entries c.change.new.changed.entries h (slot_size c.blob-item.result.bytes)) (inv.told t)
+          (did.spread t (subst (λ h. KnowsRoom c.loop-blob.self.room (slots_now c.loop-blob.changed.entries h) (page_count c.loop-blob.self)) (sym (inv.told t)) before.knows)));
     }
 
 pub returns-clause-plan : goal.returns-clause-plan
@@ -60,7 +72,24 @@ returns-clause-changed g c = λ t.
     let end : length c.args.batch.now ≤ c.loop-blob.blob-index = subst (λ bs. length bs ≤ c.loop-blob.blob-index) c.as_slice-blob-items.ensures c.loop-blob-test.false in
     planned_told c.loop-blob.self c.loop-blob.changed.entries (g.G.Pages.held c.args.pages.now) (g.G.Pages.in_use c.args.pages.now) (g.G.Pages.in_file c.args.pages.now) c.args.batch.now c.loop-blob.blob-index c.page_count-before.result c.page_count.result c.in_ok-batch.batch.pages c.page_count.ensures done.pages end done.again (inv.telling t)
 
+pub returns-clause-lean : goal.returns-clause-lean
+returns-clause-lean g c = λ t.
+    let inv = c.loop-blob.invariant in
+    let end : length c.args.batch.now ≤ c.loop-blob.blob-index = subst (λ bs. length bs ≤ c.loop-blob.blob-index) c.as_slice-blob-items.ensures c.loop-blob-test.false in
+    planned_lean c.args.self.now c.loop-blob.self c.loop-blob.changed.entries (g.G.Pages.held c.args.pages.now) c.args.batch.now c.loop-blob.blob-index end (inv.leaning t)
+
 pub returns-clause-few : goal.returns-clause-few
 returns-clause-few g c =
     let inv = c.loop-blob.invariant in
     planned_few c.loop-blob.changed.entries c.page_count-before.result c.page_count.result c.loop-blob.blob-index (length c.args.batch.now) c.in_ok-batch.batch.pages c.in_ok-batch.ensures.pages inv.few inv.within
+
+pub returns-clause-spread : goal.returns-clause-spread
+returns-clause-spread g c = λ t knows.
+    let inv = c.loop-blob.invariant in
+    let end : length c.args.batch.now ≤ c.loop-blob.blob-index = subst (λ bs. length bs ≤ c.loop-blob.blob-index) c.as_slice-blob-items.ensures c.loop-blob-test.false in
+    planned_spread c.args.self.now c.loop-blob.self c.loop-blob.changed.entries (g.G.Pages.held c.args.pages.now) c.args.batch.now c.loop-blob.blob-index end (inv.spreading t knows)
+
+pub returns-clause-knows : goal.returns-clause-knows
+returns-clause-knows g c = λ t knows.
+    let done = c.in_ok-batch.ensures in
+    planned_knows c.loop-blob.self c.loop-blob.changed.entries (g.G.Pages.held c.args.pages.now) c.page_count-before.result c.page_count.result c.in_ok-batch.batch.pages done.pages done.again (c.loop-blob.invariant.spreading t knows).knows

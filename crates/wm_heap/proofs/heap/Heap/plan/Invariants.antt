@@ -1,5 +1,8 @@
 use Rattle.std.proofs.Common.{◌≡◌, ◌*◌, ◌≤◌, length}
-use Rattle.wm_heap.proofs.Planning.{Going, Telling}
+use Rattle.wm_heap.specs.Content.{slots_in}
+use Rattle.wm_heap.specs.Places.{page_count}
+use Rattle.wm_heap.specs.Room.{KnowsRoom}
+use Rattle.wm_heap.proofs.Planning.{Going, Leaning, Spreading, Telling}
 use Rattle.wm_heap.proofs.heap.Heap.plan.Given as goal
 
 abbrev pub invariant-loop-blob : goal.invariant-loop-blob
@@ -14,4 +17,6 @@ invariant-loop-blob g l = record {
   in_file : g.G.Pages.in_file l.pages ≡ g.G.Pages.in_file l.fn.pages;
   faults : g.G.Pages.faults l.pages ≡ g.G.Pages.faults l.fn.pages;
   telling : g.G.Pages.tells → Telling l.self l.changed.entries (g.G.Pages.held l.fn.pages) (g.G.Pages.in_use l.fn.pages) (g.G.Pages.in_file l.fn.pages) l.fn.batch l.blob-index;
+  leaning : g.G.Pages.tells → Leaning l.fn.self l.self l.changed.entries (g.G.Pages.held l.fn.pages) l.fn.batch l.blob-index;
+  spreading : g.G.Pages.tells → KnowsRoom l.fn.self.room (slots_in (g.G.Pages.held l.fn.pages)) (page_count l.fn.self) → Spreading l.fn.self l.self l.changed.entries (g.G.Pages.held l.fn.pages) l.fn.batch l.blob-index;
 }
