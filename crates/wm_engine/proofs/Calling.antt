@@ -1,7 +1,7 @@
 -- A call of a procedure that is not built yet.
 use Rattle.std.proofs.Common.{◌≡◌, Bool, List, Option, Some, refl}
-use Rattle.wm_base.specs.Trees.{Cond}
-use Rattle.wm_base.specs.declared.tree.statement.Arg.{Arg}
+use Rattle.wm_syntax.specs.Trees.{Cond}
+use Rattle.wm_syntax.specs.declared.statement.Arg.{Arg}
 use Rattle.wm_grammar.specs.declared.procedure.Procedure.{Procedure}
 use Rattle.wm_grammar.specs.declared.procedure.Procedure.TheVariants as procedures
 use Rattle.wm_model.specs.Step.{call_with, not_built}

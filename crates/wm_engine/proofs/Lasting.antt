@@ -1,6 +1,6 @@
 -- What is known of a line once the moment stands in the place of SYSDATE.
 use Rattle.std.proofs.Common.{◌≡◌, ℕ, false, true, List, refl, sym, ap}
-use Rattle.wm_base.specs.Trees.{Projection, All, Outs, Query, Create, Insert, Update, Delete, Select, Call, Line, Connect, Disconnect, At, Run}
+use Rattle.wm_syntax.specs.Trees.{Projection, All, Outs, Query, Create, Insert, Update, Delete, Select, Call, Line, Connect, Disconnect, At, Run}
 use Rattle.wm_calls.proofs.Lasting.{outs_last, query_lasts}
 use Rattle.wm_calls.specs.Empty.{has_empty_period, projection_has_empty}
 use Rattle.wm_calls.specs.Later.{is_later}

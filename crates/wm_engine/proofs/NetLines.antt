@@ -3,12 +3,12 @@ use Rattle.std.proofs.Common.{◌≡◌, ℕ, ◌+◌, ◌&&◌, Bool, true, fal
 use Rattle.std.proofs.lemmas.List.{length-map}
 use Rattle.std.proofs.lemmas.Option.{same_Some, none-some}
 use Rattle.std.specs.Option.{option_map}
-use Rattle.wm_base.specs.Trees.{Line}
-use Rattle.wm_base.specs.Trees as trees
-use Rattle.wm_base.specs.declared.tree.constant.Const.TheVariants as consts
-use Rattle.wm_base.specs.declared.tree.statement.Arg.{Arg}
-use Rattle.wm_base.specs.declared.tree.statement.ArgValue.{ArgValue}
-use Rattle.wm_base.specs.declared.tree.statement.ArgValue.TheVariants as values
+use Rattle.wm_syntax.specs.Trees.{Line}
+use Rattle.wm_syntax.specs.Trees as trees
+use Rattle.wm_syntax.specs.declared.constant.Const.TheVariants as consts
+use Rattle.wm_syntax.specs.declared.statement.Arg.{Arg}
+use Rattle.wm_syntax.specs.declared.statement.ArgValue.{ArgValue}
+use Rattle.wm_syntax.specs.declared.statement.ArgValue.TheVariants as values
 use Rattle.wm_calls.specs.Arguments.{argument, argument_from, is_true, is_true_given, text_given, text_of}
 use Rattle.wm_calls.specs.Places.{parameter_at, parameters_in}
 use Rattle.wm_grammar.specs.Calls.{at_place, is_some_same, is_text, parameter_by, procedure_of}

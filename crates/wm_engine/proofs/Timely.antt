@@ -1,7 +1,7 @@
 -- The moment that a line of the grammar sets is below the end.
 use Rattle.std.proofs.Common.{◌≡◌, ℕ, ◌<◌, List, inl, inr, sym, subst}
-use Rattle.wm_base.specs.Trees as trees
-use Rattle.wm_base.specs.Trees.{Line}
+use Rattle.wm_syntax.specs.Trees as trees
+use Rattle.wm_syntax.specs.Trees.{Line}
 use Rattle.wm_base.specs.declared.instant.TheConstants.{END}
 use Rattle.wm_grammar.specs.Operands.{instant}
 use Rattle.wm_grammar.specs.Statements.{line, run}

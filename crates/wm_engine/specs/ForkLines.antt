@@ -1,6 +1,6 @@
 -- Lines that make a savepoint or a workspace.
 use Rattle.std.specs.Prelude.{Bool, true, false, Option, Some, Result, Ok, Err}
-use Rattle.wm_base.specs.Trees.{Line, Run, Statement, Call}
+use Rattle.wm_syntax.specs.Trees.{Line, Run, Statement, Call}
 use Rattle.wm_grammar.specs.Calls.{procedure_of}
 use Rattle.wm_grammar.specs.declared.procedure.Procedure.{Procedure}
 use Rattle.wm_grammar.specs.declared.procedure.Procedure.TheVariants as procedures

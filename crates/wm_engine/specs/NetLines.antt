@@ -1,7 +1,7 @@
 -- Lines that refresh a workspace, or merge it and let it be.
 use Rattle.std.specs.Prelude.{ℕ, List, [], if◌then◌else◌, Option, Some, None, unwrap_or, Result, Ok, Err}
-use Rattle.wm_base.specs.Trees.{Line, Run, Statement, Call}
-use Rattle.wm_base.specs.declared.tree.statement.Arg.{Arg}
+use Rattle.wm_syntax.specs.Trees.{Line, Run, Statement, Call}
+use Rattle.wm_syntax.specs.declared.statement.Arg.{Arg}
 use Rattle.wm_calls.specs.Arguments.{is_true_given, text_given}
 use Rattle.wm_grammar.specs.Calls.{procedure_of}
 use Rattle.wm_grammar.specs.Parsed.{Bad}

@@ -7,7 +7,7 @@ use crate::opening::{Opened, open_alone};
 use crate::{DiskFailed, SayFailed, Station};
 use std::fs::File;
 use std::io;
-use std::io::{ErrorKind, Write};
+use std::io::{ErrorKind, Seek, SeekFrom, Write};
 use std::os::unix::fs::FileExt;
 use std::rt::Files;
 
@@ -115,12 +115,19 @@ fn not_open() -> io::Error {
     io::Error::from(ErrorKind::NotFound)
 }
 
+// No read or write begins where the file stands, so its end may be sought: that takes less than to ask for all that the
+// system knows of it.
 fn len_of(file: &Opened) -> io::Result<u64> {
     match file {
-        Opened::File(file) => Ok(file.metadata()?.len()),
+        Opened::File(file) => end_of(file),
         Opened::Nothing => Ok(0),
         Opened::Fault => Err(not_open()),
     }
+}
+
+fn end_of(file: &File) -> io::Result<u64> {
+    let mut file = file;
+    file.seek(SeekFrom::End(0))
 }
 
 // Goes on until `into` is full. The end of the file before that is an error.

@@ -1,13 +1,19 @@
 -- How many pages are put for the blobs that alter what stands under their ids.
-use Rattle.std.proofs.Common.{◌≡◌, ℕ, ◌+◌, ◌*◌, ◌≤◌, Bool, true, false, cond, not, ◌||◌, eqb, List, [], ◌∷◌, length, filter, Option, Some, None, is_some, refl, sym, ap, subst, ◌∙◌, arith}
+use Rattle.std.proofs.Common.{◌≡◌, ℕ, ◌+◌, ◌-◌, ◌*◌, ◌<◌, ◌≤◌, Bool, true, false, cond, not, ◌||◌, eqb, List, [], ◌∷◌, ◌++◌, length, filter, Option, Some, None, is_some, refl, sym, ap, subst, ◌∙◌, arith}
+use Rattle.std.specs.Bool.{beq}
 use Rattle.std.specs.List.{list_any}
 use Rattle.std.proofs.lemmas.Bool.{eqb-true}
+use Rattle.std.proofs.lemmas.Map.Views.{any-filter_same}
 use Rattle.wm_page.specs.declared.write.PageWrite.{PageWrite}
 use Rattle.wm_heap.specs.declared.blob.Blob.{Blob}
-use Rattle.wm_heap.specs.Blobs.{blob_at, alters, AreBlobs, AreSomeOf, OverBytes, change_something}
-use Rattle.wm_heap.proofs.Altering.{all_change, alters_not, change_something-some, same_unless}
+use Rattle.wm_heap.specs.declared.slot.Slot.{Slot}
+use Rattle.wm_heap.specs.Blobs.{blob_at, alters, AreBlobs, AreSomeOf, OverBytes, change_something, moves, slots_put}
+use Rattle.wm_heap.specs.Content.{slots_in}
+use Rattle.wm_heap.specs.Slots.{used}
+use Rattle.wm_heap.proofs.Altering.{all_change, alters_not, change_something-some, same_unless, used-some}
 use Rattle.wm_heap.proofs.Planning.{AreBlobs-rest}
-use Rattle.wm_store.specs.Few.{AlterOnly, PutsFew}
+use Rattle.wm_heap.proofs.Sizes.{used-append}
+use Rattle.wm_store.specs.Few.{AddsLate, AlterOnly, PutsFew}
 
 -- ---- blobs of some ids
 
@@ -101,3 +107,38 @@ puts_few there standing blobs left pages tells once are read nothing most = reco
 -- and none where all of them only drop ids that have no place
 pub none_put : (there : ℕ → Bool) (blobs left : List Blob) (pages : List PageWrite) → AreSomeOf left blobs → eqb (length pages) 0 ≡ not (change_something there left) → change_something there blobs ≡ false → pages ≡ []
 none_put there blobs left pages some nothing idle = empty pages (nothing ∙ ap not (change_something-some there left blobs some idle))
+
+-- ---- those that move a record
+
+moves_change : (there : ℕ → Bool) (blobs : List Blob) → list_any (moves there) blobs ≡ true → change_something there blobs ≡ true
+moves_change there [] some = some
+moves_change there (b ∷ blobs) some = by_tests (is_some b.bytes) (there b.id) some (moves_change there blobs)
+  where
+    by_tests : (put here : Bool) → (not (beq put here) || list_any (moves there) blobs) ≡ true → (list_any (moves there) blobs ≡ true → change_something there blobs ≡ true) → ((put || here) || change_something there blobs) ≡ true
+    by_tests true here any later = refl
+    by_tests false true any later = refl
+    by_tests false false any later = later any
+
+filled : {A : Type 0} (xs : List A) → eqb (length xs) 0 ≡ false → 0 < length xs
+filled [] e = absurd cc
+filled (x ∷ xs) e = omega arith
+
+-- pages are put where a change moves a record, since it is one of those that are left
+pub some_put : (there : ℕ → Bool) (blobs left : List Blob) (pages : List PageWrite) → filter (moves there) left ≡ filter (moves there) blobs → eqb (length pages) 0 ≡ not (change_something there left) → list_any (moves there) blobs ≡ true → 0 < length pages
+some_put there blobs left pages moved nothing some = filled pages (nothing ∙ ap not (moves_change there left also))
+  where
+    any_left : (all : List Blob) → list_any (moves there) (filter (moves there) all) ≡ list_any (moves there) all
+    any_left all = any-filter_same (moves there) (moves there) true (λ b e. e) all
+
+    also : list_any (moves there) left ≡ true
+    also = sym (any_left left) ∙ ap (list_any (moves there)) moved ∙ any_left blobs ∙ some
+
+-- pages are added late for all of the blobs, where they are for some
+pub adds_late : (old new : ℕ) (held : ℕ → List ℕ) (some blobs : List Blob) → AreSomeOf some blobs → AddsLate old new held (slots_put some) → AddsLate old new held (slots_put blobs)
+adds_late old new held some blobs are late = record {
+  each = λ grown p from till. (let each = late.each grown p from till in let more = put (slots_in held p) in omega arith);
+  last = λ grown enough. (let last = late.last grown enough in let more = put (slots_in held (old - 1)) in omega arith);
+}
+  where
+    put : (slots : List Slot) → used (slots ++ slots_put some) ≤ used (slots ++ slots_put blobs)
+    put slots = omega (arith, used-append slots (slots_put some), used-append slots (slots_put blobs), used-some some blobs are)

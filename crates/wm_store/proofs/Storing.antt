@@ -14,12 +14,14 @@ use Rattle.wm_journal.proofs.Stored.{rests_stores, held_closed}
 use Rattle.wm_heap.specs.declared.blob.Blob.{Blob}
 use Rattle.wm_heap.specs.declared.heap.Heap.{Heap}
 use Rattle.wm_heap.specs.Slots.{slots_of}
-use Rattle.wm_heap.specs.Content.{bytes_at}
+use Rattle.wm_heap.specs.Content.{bytes_at, slots_in}
 use Rattle.wm_heap.specs.Places.{ids_of, page_count, Once, IsHeapOf}
 use Rattle.wm_heap.specs.Plan.{IsPlan, IsChanged, laid}
+use Rattle.wm_heap.specs.Room.{KnowsRoom}
+use Rattle.wm_heap.proofs.Knowing.{knows_same}
 use Rattle.wm_store.specs.Opened.{pages_opened, opened, Held}
 use Rattle.wm_store.specs.Spelled.{HaveSpellings, blobs_of}
-use Rattle.wm_store.specs.Stores.{IsStoreOf, OldOrAfter}
+use Rattle.wm_store.specs.Stores.{IsStoreOf, KnowsRoomOf, OldOrAfter}
 use Rattle.wm_store.specs.declared.store.Store.{Store}
 use Rattle.wm_store.proofs.Opening.{opened-stores, pages_opened-same}
 use Rattle.wm_store.proofs.Committing.{Changes, changed_pages, count_planned, below_planned}
@@ -168,6 +170,14 @@ store_after old new before store changes es records planned opens journal_is res
       opens = (done.0, done.2.here.opens);
     }
 
+-- the store of the new pages knows their room
+pub room_after : (old new : History) (before : ℕ) (store : Store) (es : List (ℕ × List ℕ)) → IsPlan before (page_count store.heap) es → KnowsRoom store.heap.room (slots_in (laid es (page (now old)))) (page_count store.heap) → store.journal ≡ count_after before es
+    → ((p : ℕ) → 1 ≤ p → p < store.journal → page (now new) p ≡ over es (page (now old)) p) → KnowsRoomOf store new
+room_after old new before store es plan knows journal_is pages =
+    let is : store.journal ≡ page_count store.heap = journal_is ∙ count_planned before (page_count store.heap) es plan in
+    subst (KnowsRoom store.heap.room (slots_in (page (now new)))) (sym is)
+    (knows_same store.heap.room (slots_in (laid es (page (now old)))) (slots_in (page (now new))) (page_count store.heap) (λ p from till. ap (λ bytes. unwrap_or (slots_of bytes) []) (pages p (omega arith) (omega arith))) knows)
+
 pub held_after : (old new : History) (before journal : ℕ) (heap : Heap) (changes : List Change) (es : List (ℕ × List ℕ)) (records : List Stored) → Planned old before (page_count heap) heap changes es → opened (now old) ≡ Ok records → journal ≡ count_after before es → IsAtRest new journal
     → ((p : ℕ) → 1 ≤ p → p < journal → page (now new) p ≡ over es (page (now old)) p) → (after : List Stored) × AfterBatch records changes after × Holds new (Held after)
 held_after old new before journal heap changes es records planned opens journal_is rests pages =
@@ -182,6 +192,10 @@ pub store_same : (old new : History) (store : Store) (changes : List Change) (es
 store_same old new store changes es records same none planned opens =
     subst (λ h. IsStoreOf store h) (sym same)
     (store_after old old store.journal store changes es records planned opens (nothing_grew store.journal (page_count store.heap) es none planned.plan) planned.rests (λ p from till. sym (ap (λ l. over l (page (now old)) p) none)))
+
+pub room_same : (old new : History) (store : Store) (es : List (ℕ × List ℕ)) → new ≡ old → es ≡ [] → IsPlan store.journal (page_count store.heap) es → KnowsRoom store.heap.room (slots_in (laid es (page (now old)))) (page_count store.heap) → KnowsRoomOf store new
+room_same old new store es same none plan knows =
+    subst (KnowsRoomOf store) (sym same) (room_after old old store.journal store es plan knows (nothing_grew store.journal (page_count store.heap) es none plan) (λ p from till. sym (ap (λ l. over l (page (now old)) p) none)))
 
 pub held_same : (old new : History) (before : ℕ) (heap : Heap) (changes : List Change) (es : List (ℕ × List ℕ)) (records : List Stored) → new ≡ old → es ≡ [] → Planned old before (page_count heap) heap changes es → opened (now old) ≡ Ok records → (after : List Stored) × AfterBatch records changes after × Holds new (Held after)
 held_same old new before heap changes es records same none planned opens =

@@ -7,7 +7,9 @@ use Rattle.wm_spec.specs.Records.{record_at, AfterBatch}
 use Rattle.wm_station.specs.History.{History, now}
 use Rattle.wm_journal.specs.Disk.{page}
 use Rattle.wm_journal.specs.Store.{IsAtRest, over}
+use Rattle.wm_heap.specs.Content.{slots_in}
 use Rattle.wm_heap.specs.Places.{IsHeapOf}
+use Rattle.wm_heap.specs.Room.{KnowsRoom}
 use Rattle.wm_store.specs.Opened.{opened, Held}
 use Rattle.wm_store.specs.declared.store.Store.{Store}
 
@@ -16,6 +18,10 @@ pub record IsStoreOf (store : Store) (h : History) : Type 0 where
   pub rests : IsAtRest h store.journal
   pub heap : IsHeapOf store.heap (page (now h)) store.journal
   pub opens : (rs : List Stored) × (opened (now h) ≡ Ok rs)
+
+-- the store knows how much room each page of the station leaves
+abbrev pub KnowsRoomOf : Store → History → Type 0
+KnowsRoomOf store h = KnowsRoom store.heap.room (slots_in (page (now h))) store.journal
 
 -- the file holds the old records, or those after the batch
 abbrev pub OldOrAfter : List Stored → List Change → List ℕ → Type 0

@@ -3,9 +3,10 @@ ghost use Rattle.std.specs.Prelude.{◌≡◌, ℕ, ◌≤◌, ◌∷◌, [], Li
 ghost use Rattle.wm_page.specs.Batch.{entries};
 ghost use Rattle.wm_page.specs.Fields.{number_at};
 ghost use Rattle.wm_heap.specs.Blobs.{slots_put};
-ghost use Rattle.wm_heap.specs.Content.{fault_of};
+ghost use Rattle.wm_heap.specs.Content.{fault_of, slots_in};
 ghost use Rattle.wm_heap.specs.Places.{IsHeapOf};
 ghost use Rattle.wm_heap.specs.Plan.{root_of};
+ghost use Rattle.wm_heap.specs.Room.{KnowsRoom};
 ghost use Rattle.wm_heap.specs.Slots.{slots_of, page_of};
 ghost use Rattle.wm_store.specs.Fresh.{fresh_changes, live};
 ghost use Rattle.wm_store.specs.Spelled.{HaveSpellings, blobs_of};
@@ -81,6 +82,7 @@ pub fn fresh_heap(alloc: Global, limit: u32) -> Result<(Heap, PageBatch), Memory
     ensures root { OnOk result (number_at (root_of 3) 0 ≡ 3) }
     ensures again { OnOk result (slots_of (page_of (slots_put (blobs_of (fresh_changes limit)))) ≡ Some (slots_put (blobs_of (fresh_changes limit)))) }
     ensures heap { IfOk result (λ r. (held : ℕ → List ℕ) → held 2 ≡ page_of (slots_put (blobs_of (fresh_changes limit))) → IsHeapOf r.0 held 3) }
+    ensures room { IfOk result (λ r. (held : ℕ → List ℕ) → held 2 ≡ page_of (slots_put (blobs_of (fresh_changes limit))) → KnowsRoom r.0.room (slots_in held) 3) }
     ensures sound { OnOk result ((held : ℕ → List ℕ) (whole : ℕ) → held 2 ≡ page_of (slots_put (blobs_of (fresh_changes limit))) → 3 ≤ whole → fault_of held 3 whole ≡ None) }
 {
     let changes = fresh(alloc, limit)?;

@@ -1,17 +1,19 @@
 //! The heap over the pages of a station.
-ghost use Rattle.std.specs.Prelude.{◌≡◌, ℕ, ◌+◌, ◌*◌, ◌/◌, ◌<◌, ◌≤◌, false, [], length, is_some, Ok, IfOk, IfErr, OnOk, IsErrOf};
+ghost use Rattle.std.specs.Prelude.{◌≡◌, ℕ, ◌+◌, ◌*◌, ◌/◌, ◌<◌, ◌≤◌, true, false, not, ◌==◌, [], filter, length, is_some, Ok, IfOk, IfErr, OnOk, IsErrOf};
+ghost use Rattle.std.specs.List.{list_any};
 ghost use Rattle.wm_base.specs.declared.fault.OpenFault.TheVariants as opening;
 ghost use Rattle.wm_base.specs.declared.fault.StoreFault.TheVariants as storing;
 ghost use Rattle.wm_page.specs.Batch.{entries};
 ghost use Rattle.wm_page.specs.Cause.{OpenCause, StoreCause};
 ghost use Rattle.wm_station.specs.History.{now};
 ghost use Rattle.wm_journal.specs.Disk.{page};
-ghost use Rattle.wm_heap.specs.Blobs.{AreBlobs, AreSmall, change_something};
-ghost use Rattle.wm_heap.specs.Content.{content, bytes_at};
+ghost use Rattle.wm_heap.specs.Blobs.{AreBlobs, AreSmall, AreSomeOf, OverBytes, alters, change_something, moves, slots_put};
+ghost use Rattle.wm_heap.specs.Content.{content, bytes_at, slots_in};
 ghost use Rattle.wm_heap.specs.Places.{place_of, page_count, IsHeapOf};
-ghost use Rattle.wm_heap.specs.Plan.{IsPlan, IsChanged};
+ghost use Rattle.wm_heap.specs.Plan.{IsPlan, IsChanged, laid};
+ghost use Rattle.wm_heap.specs.Room.{KnowsRoom};
 ghost use Rattle.wm_store.specs.Answers.{FindsIn};
-ghost use Rattle.wm_store.specs.Few.{PutsFew};
+ghost use Rattle.wm_store.specs.Few.{AddsLate, PutsFew};
 ghost use Rattle.wm_store.specs.Opened.{pages_opened};
 
 use crate::records::load_pages;
@@ -19,7 +21,7 @@ use crate::station_pages::{StationPages, whole_pages};
 use std::alloc::Global;
 use wm_base::{Bytes, OpenFault, StoreFault};
 use wm_heap::{Blobs, Heap};
-use wm_page::PageBatch;
+use wm_page::{PAGE_SIZE, PageBatch};
 use wm_spec::record::Records;
 use wm_station::{DiskFailed, Station};
 
@@ -32,6 +34,7 @@ pub fn load_over<P: Station>(
 ) -> Result<(Heap, Records), OpenFault>
     requires { 3 ≤ count }
     ensures heap { P.tells → IfOk result (λ r. IsHeapOf r.0 (page (now (P.history station.old))) count) }
+    ensures room { P.tells → IfOk result (λ r. KnowsRoom r.0.room (slots_in (page (now (P.history station.old)))) count) }
     ensures size { P.tells → OnOk result (count * 4096 ≤ length (now (P.history station.old))) }
     ensures records { P.tells → IfOk result (λ r. pages_opened (page (now (P.history station.old))) count (length (now (P.history station.old)) / 4096) ≡ Ok r.1) }
     ensures fault { P.tells → IfErr result (λ e. FindsIn e (pages_opened (page (now (P.history station.old))) count (length (now (P.history station.old)) / 4096))) }
@@ -53,9 +56,86 @@ pub fn load_over<P: Station>(
     load_pages(alloc, &mut pages)
 }
 
-/// The pages that change the heap of a store with so many pages, whose station is at rest.
+/// The pages that change the heap of a store with so many pages, whose station is at rest. The length of its file is not
+/// asked: a page that is not there is a fault of the disk.
 #[tactic(auto, using(crate::proofs::Pasts::past_injective))]
 pub fn plan_over<P: Station>(
+    alloc: Global,
+    station: &mut P,
+    heap: &mut Heap,
+    count: u64,
+    blobs: &Blobs,
+) -> Result<PageBatch, StoreFault>
+    requires once { AreBlobs blobs.now }
+    requires small { AreSmall blobs.now }
+    requires heap { P.tells → IsHeapOf heap.old (page (now (P.history station.old))) count }
+    requires size { P.tells → count * 4096 ≤ length (now (P.history station.old)) }
+    ensures plan { IfOk result (λ b. IsPlan (page_count heap.old) (page_count heap.new) (entries b.pages)) }
+    ensures nothing { IfOk result (λ b. (length b.pages == 0) ≡ not (change_something (λ id. is_some (place_of heap.old id)) blobs.now)) }
+    ensures few { IfOk result (λ b. length b.pages ≤ 2 * length blobs.now + 2) }
+    ensures late { P.tells → KnowsRoom heap.old.room (slots_in (page (now (P.history station.old)))) (page_count heap.old) → OnOk result (AddsLate (page_count heap.old) (page_count heap.new) (page (now (P.history station.old))) (slots_put blobs.now)) }
+    ensures changed { P.tells → IfOk result (λ b. IsChanged heap.new blobs.now (entries b.pages) (page (now (P.history station.old))) count) }
+    ensures knows { P.tells → KnowsRoom heap.old.room (slots_in (page (now (P.history station.old)))) (page_count heap.old) → IfOk result (λ b. KnowsRoom heap.new.room (slots_in (laid (entries b.pages) (page (now (P.history station.old))))) (page_count heap.new)) }
+    ensures told { P.tells → P.history station.new ≡ P.history station.old }
+    ensures cause { StoreCause (P.disk_faults station.old) (P.disk_faults station.new) result }
+    ensures sound { P.tells → IsErrOf result storing.Changed → ⊥ }
+    ensures say_quiet { P.say_faults station.new ≡ P.say_faults station.old }
+{
+    // No file is so long that this many pages lie in it.
+    if count > u64::MAX / PAGE_SIZE as u64 {
+        return Err(StoreFault::Memory);
+    }
+    let mut pages = StationPages {
+        station,
+        count,
+        whole: count,
+    };
+    let batch = heap.plan(alloc, &mut pages, blobs)?;
+    Ok(batch)
+}
+
+/// Those changes, in order, that say something else than stands under their ids in a store with so many pages, whose
+/// station is at rest.
+#[tactic(auto, using(crate::proofs::Pasts::past_injective))]
+pub fn altering_over<P: Station>(
+    alloc: Global,
+    station: &mut P,
+    heap: &Heap,
+    count: u64,
+    blobs: Blobs,
+) -> Result<Blobs, StoreFault>
+    requires heap { P.tells → IsHeapOf heap.now (page (now (P.history station.old))) count }
+    requires size { P.tells → count * 4096 ≤ length (now (P.history station.old)) }
+    ensures some { IfOk result (λ left. AreSomeOf left blobs) }
+    ensures moved { IfOk result (λ left. filter (moves (λ id. is_some (place_of heap.now id))) left ≡ filter (moves (λ id. is_some (place_of heap.now id))) blobs) }
+    ensures altering { P.tells → IfOk result (λ left. left ≡ filter (alters (bytes_at (content (page (now (P.history station.old))) count))) blobs) }
+    ensures read { P.tells → OnOk result (OverBytes (bytes_at (content (page (now (P.history station.old))) count)) blobs) }
+    ensures told { P.tells → P.history station.new ≡ P.history station.old }
+    ensures cause { StoreCause (P.disk_faults station.old) (P.disk_faults station.new) result }
+    ensures sound { P.tells → IsErrOf result storing.Changed → ⊥ }
+    ensures say_quiet { P.say_faults station.new ≡ P.say_faults station.old }
+{
+    let whole = match whole_pages(station) {
+        Ok(whole) => whole,
+        Err(DiskFailed::Failed) => return Err(StoreFault::Disk),
+        Err(DiskFailed::Memory) => return Err(StoreFault::Memory),
+    };
+    // Another writer cut the file.
+    if whole < count {
+        return Err(StoreFault::Changed);
+    }
+    let mut pages = StationPages {
+        station,
+        count,
+        whole,
+    };
+    let left = heap.altering(alloc, &mut pages, blobs)?;
+    Ok(left)
+}
+
+/// The pages of those changes that say something else than stands there. There are some where a record comes or goes,
+/// whatever the station tells.
+pub fn change_over<P: Station>(
     alloc: Global,
     station: &mut P,
     heap: &mut Heap,
@@ -69,26 +149,18 @@ pub fn plan_over<P: Station>(
     ensures plan { IfOk result (λ b. IsPlan (page_count heap.old) (page_count heap.new) (entries b.pages)) }
     ensures few { IfOk result (λ b. length b.pages ≤ 2 * length blobs + 2) }
     ensures idle { IfOk result (λ b. change_something (λ id. is_some (place_of heap.old id)) blobs ≡ false → b.pages ≡ []) }
+    ensures moved { IfOk result (λ b. list_any (moves (λ id. is_some (place_of heap.old id))) blobs ≡ true → 0 < length b.pages) }
     ensures altered { P.tells → IfOk result (λ b. PutsFew blobs b.pages (bytes_at (content (page (now (P.history station.old))) count))) }
+    ensures late { P.tells → KnowsRoom heap.old.room (slots_in (page (now (P.history station.old)))) (page_count heap.old) → OnOk result (AddsLate (page_count heap.old) (page_count heap.new) (page (now (P.history station.old))) (slots_put blobs)) }
     ensures changed { P.tells → IfOk result (λ b. IsChanged heap.new blobs (entries b.pages) (page (now (P.history station.old))) count) }
+    ensures knows { P.tells → KnowsRoom heap.old.room (slots_in (page (now (P.history station.old)))) (page_count heap.old) → IfOk result (λ b. KnowsRoom heap.new.room (slots_in (laid (entries b.pages) (page (now (P.history station.old))))) (page_count heap.new)) }
     ensures told { P.tells → P.history station.new ≡ P.history station.old }
     ensures cause { StoreCause (P.disk_faults station.old) (P.disk_faults station.new) result }
     ensures sound { P.tells → IsErrOf result storing.Changed → ⊥ }
     ensures say_quiet { P.say_faults station.new ≡ P.say_faults station.old }
 {
-    let whole = match whole_pages(station) {
-        Ok(whole) => whole,
-        Err(DiskFailed::Failed) => return Err(StoreFault::Disk),
-        Err(DiskFailed::Memory) => return Err(StoreFault::Memory),
-    };
-    let mut pages = StationPages {
-        station,
-        count,
-        whole,
-    };
-    let left = heap.altering(alloc, &mut pages, blobs)?;
-    let batch = heap.plan(alloc, &mut pages, &left)?;
-    Ok(batch)
+    let left = altering_over(alloc, station, heap, count, blobs)?;
+    plan_over(alloc, station, heap, count, &left)
 }
 
 /// The bytes of a record of a store with so many pages, whose station is at rest.

@@ -6,7 +6,9 @@ ghost use Rattle.wm_base.specs.declared.fault.OpenFault.TheVariants as faults;
 ghost use Rattle.wm_codec.specs.Reading.{record_of};
 ghost use Rattle.wm_page.specs.Cause.{OpenCause};
 ghost use Rattle.wm_heap.specs.Asking.{Finds};
+ghost use Rattle.wm_heap.specs.Content.{slots_in};
 ghost use Rattle.wm_heap.specs.Places.{IsHeapOf};
+ghost use Rattle.wm_heap.specs.Room.{KnowsRoom};
 ghost use Rattle.wm_store.specs.Answers.{FindsIn};
 ghost use Rattle.wm_store.specs.Opened.{are_records, pages_opened, records_in};
 
@@ -99,6 +101,7 @@ impl RecordReader {
 pub fn load_pages<G: Pages>(alloc: Global, pages: &mut G) -> Result<(Heap, Records), OpenFault>
     requires { 2 ≤ G.in_use pages.old }
     ensures heap { G.tells → IfOk result (λ r. IsHeapOf r.0 (G.held pages.old) (G.in_use pages.old)) }
+    ensures room { G.tells → IfOk result (λ r. KnowsRoom r.0.room (slots_in (G.held pages.old)) (G.in_use pages.old)) }
     ensures records { G.tells → IfOk result (λ r. pages_opened (G.held pages.old) (G.in_use pages.old) (G.in_file pages.old) ≡ Ok r.1) }
     ensures fault { G.tells → IfErr result (λ e. FindsIn e (pages_opened (G.held pages.old) (G.in_use pages.old) (G.in_file pages.old))) }
     ensures store { IsErrOf result faults.NotStore → ⊥ }

@@ -12,15 +12,17 @@ ghost use Rattle.wm_station.specs.Moments.{Holds, During, Ended};
 ghost use Rattle.wm_journal.specs.Disk.{is_made, count_of, page};
 ghost use Rattle.wm_journal.specs.Opening.{IsUntouched};
 ghost use Rattle.wm_journal.specs.Store.{Settles};
+ghost use Rattle.wm_heap.specs.Blobs.{slots_put};
 ghost use Rattle.wm_heap.specs.Places.{place_of};
 ghost use Rattle.wm_store.specs.Answers.{SaysOf};
+ghost use Rattle.wm_store.specs.Few.{AddsLate};
 ghost use Rattle.wm_store.specs.Fresh.{fresh_records};
 ghost use Rattle.wm_store.specs.Opened.{opened, Held, SaysAs, HoldsAs};
-ghost use Rattle.wm_store.specs.Spelled.{FitPages};
+ghost use Rattle.wm_store.specs.Spelled.{FitPages, blobs_of};
 
 use crate::blobs::spell_changes;
 use crate::fresh::fresh_heap;
-use crate::over::{get_over, load_over, plan_over};
+use crate::over::{change_over, get_over, load_over};
 use crate::records::record_in;
 use std::alloc::Global;
 use wm_base::{MakeFault, OpenFault, StoreFault};
@@ -37,7 +39,7 @@ pub struct Store {
 }
 
 impl Store {
-    ghost use Rattle.wm_store.specs.Stores.{IsStoreOf, OldOrAfter, ChangesNothing, ChangesOnly, DifferOnFew};
+    ghost use Rattle.wm_store.specs.Stores.{IsStoreOf, KnowsRoomOf, OldOrAfter, ChangesNothing, ChangesOnly, DifferOnFew};
 
     /// Makes a store of a file that holds none, which takes `limit` changes. It then holds three records: counters, the
     /// workspace LIVE, and its version. What a crash within the call leaves, or an error but Exists, is not said.
@@ -46,6 +48,7 @@ impl Store {
         requires most { limit ≤ 1048576 }
         ensures held { P.tells → OnOk result (Holds (P.history station.new) (Held (fresh_records limit))) }
         ensures store { P.tells → IfOk result (λ s. IsStoreOf s (P.history station.new)) }
+        ensures room { P.tells → IfOk result (λ s. KnowsRoomOf s (P.history station.new)) }
         ensures durable { P.tells → OnOk result ((c : List ℕ) → Leaves (P.history station.new) c → c ≡ now (P.history station.new)) }
         ensures count { P.tells → OnOk result (count_of (now (P.history station.new)) ≡ 3) }
         ensures size { P.tells → OnOk result (length (now (P.history station.new)) ≡ max 12288 (length (now (P.history station.old)))) }
@@ -75,6 +78,7 @@ impl Store {
         // The file then says what it said, and so does each that a crash leaves.
         ensures held { P.tells → IfOk result (λ r. Holds (P.history station.new) (Held r.1)) }
         ensures store { P.tells → IfOk result (λ r. IsStoreOf r.0 (P.history station.new)) }
+        ensures room { P.tells → IfOk result (λ r. KnowsRoomOf r.0 (P.history station.new)) }
         ensures same { P.tells → SaysAs (now (P.history station.old)) (now (P.history station.new)) }
         ensures any_moment { P.tells → During (P.history station.old) (P.history station.new) (λ c s. (Leaves (P.history station.old) c ⊎ SaysAs (now (P.history station.old)) c) × (s ≡ said (P.history station.old))) }
         ensures quiet { P.tells → said (P.history station.new) ≡ said (P.history station.old) }
@@ -123,6 +127,11 @@ impl Store {
         // At most two for each record that is other than it was, and two more.
         ensures pages { P.tells → OnOk result ((old : List Stored) → Held old (now (P.history station.old)) → (ids : List ℕ) → ChangesOnly ids old batch.now.changes → DifferOnFew self.new.journal (2 * length ids + 2) (page (now (P.history station.old))) (page (now (P.history station.new)))) }
 
+        // A store that knows the room of its pages still does, and then a page is added only where each page has less
+        // than a quarter of a page more room than the batch puts, and the last has no room for it.
+        ensures room { P.tells → KnowsRoomOf self.old (P.history station.old) → OnOk result (KnowsRoomOf self.new (P.history station.new)) }
+        ensures late { P.tells → KnowsRoomOf self.old (P.history station.old) → OnOk result (AddsLate self.old.journal self.new.journal (page (now (P.history station.old))) (slots_put (blobs_of batch.now.changes))) }
+
         // A batch that changes nothing leaves the station alone.
         ensures nothing { P.tells → (old : List Stored) → Held old (now (P.history station.old)) → ChangesNothing old batch.now.changes → P.history station.new ≡ P.history station.old }
 
@@ -140,7 +149,7 @@ impl Store {
             return Err(StoreFault::Changed);
         }
         let blobs = spell_changes(alloc, batch.changes.as_slice())?;
-        let pages = plan_over(alloc, station, &mut self.heap, count, blobs)?;
+        let pages = change_over(alloc, station, &mut self.heap, count, blobs)?;
         if pages.pages.is_empty() {
             return Ok(());
         }

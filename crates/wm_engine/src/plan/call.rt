@@ -1,6 +1,6 @@
 //! Calls of DBMS_WM.
 ghost use Rattle.std.specs.Prelude.{◌≡◌, ◌<◌, ℕ, List, Some, true, IfOk};
-ghost use Rattle.wm_base.specs.Views.{filter_view};
+ghost use Rattle.wm_syntax.specs.Views.{filter_view};
 ghost use Rattle.wm_base.specs.declared.instant.TheConstants.{END};
 ghost use Rattle.wm_plan.specs.Forks.{AreForks};
 ghost use Rattle.wm_engine.specs.ForkLines.{forks_call};

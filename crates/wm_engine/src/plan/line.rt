@@ -1,7 +1,7 @@
 //! A line.
 ghost use Rattle.std.specs.Prelude.{◌≡◌, ◌<◌, ◌≤◌, ℕ, List, length, Some, true, IfOk, Ok as Read};
 ghost use Rattle.wm_base.specs.declared.instant.TheConstants.{END};
-ghost use Rattle.wm_base.specs.Views.{line_view};
+ghost use Rattle.wm_syntax.specs.Views.{line_view};
 ghost use Rattle.wm_plan.specs.Forks.{AreForks};
 ghost use Rattle.wm_engine.specs.ForkLines.{is_fork, is_fork_line};
 ghost use Rattle.wm_engine.specs.NetLines.{nets_into, nets_of_line};
@@ -16,7 +16,6 @@ ghost use Rattle.wm_spending.specs.Nets.{AreNets};
 
 use crate::plan::statement::run;
 use std::alloc::Global;
-use wm_base::tree::line::Line;
 use wm_base::{Instant, Memory};
 use wm_calls::is_later;
 use wm_image::Image;
@@ -28,6 +27,7 @@ use wm_plan::session::Session;
 use wm_reader::{is_remark, is_text};
 use wm_space::at::at_moment;
 use wm_space::connect::{connect, disconnect};
+use wm_syntax::line::Line;
 use wm_timed::set_moment;
 
 /// The most bytes that a line may have.

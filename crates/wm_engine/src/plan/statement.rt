@@ -1,7 +1,7 @@
 //! A statement of a session.
 ghost use Rattle.std.specs.Prelude.{◌≡◌, ◌<◌, ℕ, List, Some, true, IfOk};
 ghost use Rattle.wm_base.specs.declared.instant.TheConstants.{END};
-ghost use Rattle.wm_base.specs.Views.{statement_view};
+ghost use Rattle.wm_syntax.specs.Views.{statement_view};
 ghost use Rattle.wm_plan.specs.Forks.{AreForks};
 ghost use Rattle.wm_engine.specs.ForkLines.{forks};
 ghost use Rattle.wm_engine.specs.NetLines.{nets};
@@ -15,7 +15,6 @@ ghost use Rattle.wm_spending.specs.Nets.{AreNets};
 
 use crate::plan::call::{Called, call};
 use std::alloc::Global;
-use wm_base::tree::statement::Statement;
 use wm_base::{Memory, Name};
 use wm_calls::has_empty_period;
 use wm_change::change::{delete, update};
@@ -26,6 +25,7 @@ use wm_plan::planned::Planned;
 use wm_plan::refuse::no_session;
 use wm_plan::session::{Session, session_named};
 use wm_space::create::create;
+use wm_syntax::statement::Statement;
 use wm_views::select::select;
 
 /// What a statement does and answers.

@@ -1,8 +1,9 @@
 use Rattle.std.proofs.Common.{◌≡◌, ℕ, ◌≤◌, ◌∷◌, [], List, Some, None, sym, ap, subst, ◌∙◌}
 use Rattle.wm_heap.specs.Blobs.{AreBlobs, slots_put}
-use Rattle.wm_heap.specs.Content.{fault_of}
+use Rattle.wm_heap.specs.Content.{fault_of, slots_in}
 use Rattle.wm_heap.specs.Places.{IsHeapOf}
 use Rattle.wm_heap.specs.Plan.{root_of}
+use Rattle.wm_heap.specs.Room.{KnowsRoom}
 use Rattle.wm_heap.specs.Slots.{used, slots_of, page_of}
 use Rattle.wm_store.specs.Fresh.{fresh_changes}
 use Rattle.wm_store.specs.Spelled.{FitPages, HaveSpellings, blobs_of}
@@ -30,6 +31,9 @@ returns-clause-again c = subst (λ b. slots_of (page_of (slots_put b)) ≡ Some 
 
 pub returns-clause-heap : goal.returns-clause-heap
 returns-clause-heap c = subst (λ b. (held : ℕ → List ℕ) → held 2 ≡ page_of (slots_put b) → IsHeapOf c.in_ok-heap.heap held 3) (c.in_ok-blobs.ensures.blobs ∙ ap blobs_of (c.as_slice.ensures ∙ c.in_ok-changes.ensures)) c.in_ok-heap.ensures.heap
+
+pub returns-clause-room : goal.returns-clause-room
+returns-clause-room c = subst (λ b. (held : ℕ → List ℕ) → held 2 ≡ page_of (slots_put b) → KnowsRoom c.in_ok-heap.heap.room (slots_in held) 3) (c.in_ok-blobs.ensures.blobs ∙ ap blobs_of (c.as_slice.ensures ∙ c.in_ok-changes.ensures)) c.in_ok-heap.ensures.room
 
 pub returns-clause-sound : goal.returns-clause-sound
 returns-clause-sound c = subst (λ b. (held : ℕ → List ℕ) (whole : ℕ) → held 2 ≡ page_of (slots_put b) → 3 ≤ whole → fault_of held 3 whole ≡ None) (c.in_ok-blobs.ensures.blobs ∙ ap blobs_of (c.as_slice.ensures ∙ c.in_ok-changes.ensures)) c.in_ok-heap.ensures.sound

@@ -1,5 +1,7 @@
 use Rattle.std.proofs.Common.{◌≡◌, Ok, IfErr, IfOk, subst}
+use Rattle.wm_heap.specs.Content.{slots_in}
 use Rattle.wm_heap.specs.Places.{IsHeapOf}
+use Rattle.wm_heap.specs.Room.{KnowsRoom}
 use Rattle.wm_journal.specs.Disk.{page}
 use Rattle.wm_station.specs.History.{now}
 use Rattle.wm_store.specs.Answers.{FindsIn}
@@ -8,6 +10,9 @@ use Rattle.wm_store.proofs.over.load_over.Goals as goal
 
 pub returns-clause-heap : goal.returns-clause-heap
 returns-clause-heap g c = λ t. subst (λ h. IfOk c.load_pages.result (λ r. IsHeapOf r.0 (page (now h)) c.args.count)) (c.in-Ok.ensures.told t) (c.load_pages.ensures.heap t)
+
+pub returns-clause-room : goal.returns-clause-room
+returns-clause-room g c = λ t. subst (λ h. IfOk c.load_pages.result (λ r. KnowsRoom r.0.room (slots_in (page (now h))) c.args.count)) (c.in-Ok.ensures.told t) (c.load_pages.ensures.room t)
 
 pub returns-clause-size : goal.returns-clause-size
 returns-clause-size g c = λ t.

@@ -4,6 +4,7 @@ use Rattle.std.specs.Option.{option_or}
 use Rattle.wm_heap.specs.Asking.{Finds}
 use Rattle.wm_heap.specs.Content.{fault_of, slots_in}
 use Rattle.wm_heap.specs.Places.{page_count, IsHeapOf}
+use Rattle.wm_heap.specs.Room.{KnowsRoom}
 use Rattle.wm_store.specs.Opened.{are_records, pages_opened, records_in}
 use Rattle.wm_store.proofs.Reading.{read_none, read_more, pages_damaged, pages_without, pages_read}
 use Rattle.wm_store.proofs.records.load_pages.Goals as goal
@@ -19,6 +20,7 @@ loop-page-init g c = record {
   in_file = refl;
   faults = refl;
   heap = λ t. subst (IsHeapOf c.new-heap.result (g.G.Pages.held c.args.pages.now)) (sym c.new-heap.ensures.count) (c.new-heap.ensures.heap (g.G.Pages.held c.args.pages.now));
+  room = λ t. subst (KnowsRoom c.new-heap.result.room (slots_in (g.G.Pages.held c.args.pages.now))) (sym c.new-heap.ensures.count) (c.new-heap.ensures.room (slots_in (g.G.Pages.held c.args.pages.now)));
   sound = λ t. ap (λ n. fault_of (g.G.Pages.held c.args.pages.now) n (g.G.Pages.in_file c.args.pages.now)) c.new-heap.ensures.count;
   read = λ t. read_none (g.G.Pages.held c.args.pages.now) c.new-reader.result.records c.new-reader.result.unread c.new-reader.ensures.records c.new-reader.ensures.unread;
 }
@@ -58,6 +60,9 @@ loop-page-preserved g c =
       in_file = did.in_file ∙ inv.in_file;
       faults = did.cause.done ∙ inv.faults;
       heap = λ t. subst (λ held. IsHeapOf c.load_page.new.self held (page_count c.load_page.new.self)) (inv.told t) (did.heap t);
+      room = λ t.
+          subst (λ held. KnowsRoom c.load_page.new.self.room (slots_in held) (page_count c.load_page.new.self)) (inv.told t)
+          (did.room t (subst (λ held. KnowsRoom c.loop-page.heap.room (slots_in held) (page_count c.loop-page.heap)) (sym (inv.told t)) (inv.room t)));
       sound = λ t.
           subst (λ n. fault_of (g.G.Pages.held c.args.pages.now) (page_count c.load_page.new.self) n ≡ None) inv.in_file
           (subst (λ held. fault_of held (page_count c.load_page.new.self) (g.G.Pages.in_file c.loop-page.pages) ≡ None) (inv.told t) (did.undamaged t));
@@ -99,6 +104,17 @@ returns-clause-heap g c = λ t.
     let count = inv.count in
     let all : page_count c.loop-page.heap ≡ g.G.Pages.in_use c.args.pages.now = omega (arith, test, few, end, enough, count) in
     subst (IsHeapOf c.loop-page.heap (g.G.Pages.held c.args.pages.now)) all (inv.heap t)
+
+pub returns-clause-room : goal.returns-clause-room
+returns-clause-room g c = λ t.
+    let inv = c.loop-page.invariant in
+    let test = c.loop-page-test.false in
+    let few = inv.few in
+    let end = c.count-page-end.ensures in
+    let enough = c.requires in
+    let count = inv.count in
+    let all : page_count c.loop-page.heap ≡ g.G.Pages.in_use c.args.pages.now = omega (arith, test, few, end, enough, count) in
+    subst (KnowsRoom c.loop-page.heap.room (slots_in (g.G.Pages.held c.args.pages.now))) all (inv.room t)
 
 pub returns-clause-records : goal.returns-clause-records
 returns-clause-records g c = λ t.

@@ -1,5 +1,5 @@
 use Rattle.std.proofs.Common.{◌≡◌, Option, Some, None, sym, ap, ◌∙◌}
-use Rattle.wm_base.specs.Views.{filter_view}
+use Rattle.wm_syntax.specs.Views.{filter_view}
 use Rattle.wm_grammar.specs.Calls.{procedure_of}
 use Rattle.wm_grammar.specs.declared.procedure.Procedure.{Procedure}
 use Rattle.wm_model.specs.Step.{call_with, not_built}

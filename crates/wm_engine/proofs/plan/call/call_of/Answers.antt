@@ -1,6 +1,6 @@
 use Rattle.std.proofs.Common.{ℕ, List, Some, IfOk, sym, ap, subst, ◌∙◌}
 use Rattle.std.proofs.lemmas.Option.{same_Some, none-some}
-use Rattle.wm_base.specs.Views.{filter_view}
+use Rattle.wm_syntax.specs.Views.{filter_view}
 use Rattle.wm_grammar.specs.declared.procedure.Procedure.{Procedure}
 use Rattle.wm_grammar.specs.declared.procedure.Procedure.TheVariants as procedures
 use Rattle.wm_model.specs.Step.{call, call_with, not_built}

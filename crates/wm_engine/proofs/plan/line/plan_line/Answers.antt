@@ -1,6 +1,6 @@
-use Rattle.wm_base.specs.Views.{line_view}
+use Rattle.wm_syntax.specs.Views.{line_view}
 use Rattle.std.proofs.lemmas.Option.{none-some}
-use Rattle.wm_base.specs.declared.tree.line.Line.TheVariants.{Connect, Disconnect}
+use Rattle.wm_syntax.specs.declared.line.Line.TheVariants.{Connect, Disconnect}
 use Rattle.wm_model.specs.Step.{run_line}
 use Rattle.wm_plan.proofs.Planning.{timed}
 use Rattle.wm_engine.proofs.plan.line.plan_line.Goals as goal

@@ -1,5 +1,5 @@
 use Rattle.std.proofs.Common.{Ok, refl, sym, ap, ◌∙◌}
-use Rattle.wm_base.specs.Views.{line_view}
+use Rattle.wm_syntax.specs.Views.{line_view}
 use Rattle.wm_model.specs.Step.{run_parsed, not_built}
 use Rattle.wm_plan.proofs.Planning.{told_alone}
 use Rattle.wm_engine.proofs.Timely.{timely_timed}

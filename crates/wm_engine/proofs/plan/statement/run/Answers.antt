@@ -1,7 +1,7 @@
 use Rattle.std.proofs.Common.{◌≡◌, ℕ, List, [], Some, Result, Ok, Err, IfOk, sym, ap, ◌∙◌}
 use Rattle.wm_base.specs.declared.memory.Memory.{Memory}
-use Rattle.wm_base.specs.Trees.{Statement}
-use Rattle.wm_base.specs.Views.{statement_view}
+use Rattle.wm_syntax.specs.Trees.{Statement}
+use Rattle.wm_syntax.specs.Views.{statement_view}
 use Rattle.wm_model.proofs.Going.{run_some}
 use Rattle.wm_model.proofs.Seating.{run_none}
 use Rattle.wm_model.specs.Planning.{Stay}

@@ -1,7 +1,7 @@
 use Rattle.std.proofs.Common.{refl, sym, ap, ◌∙◌}
 use Rattle.std.proofs.lemmas.Option.{none-some}
-use Rattle.wm_base.specs.Views.{exprs_view, sets_view, filter_view, query_view, statement_view}
-use Rattle.wm_base.specs.declared.tree.statement.Statement.TheVariants.{Create, Insert, Update, Delete, Select, Call}
+use Rattle.wm_syntax.specs.Views.{exprs_view, sets_view, filter_view, query_view, statement_view}
+use Rattle.wm_syntax.specs.declared.statement.Statement.TheVariants.{Create, Insert, Update, Delete, Select, Call}
 use Rattle.wm_grammar.specs.Calls.{procedure_of}
 use Rattle.wm_model.specs.Step.{run_statement, create, insert, update, delete, select, call_with}
 use Rattle.wm_calls.proofs.Lasting.{insert_lasts, update_lasts}

@@ -5,9 +5,11 @@ use Rattle.wm_station.specs.History.{History, now, said, Leaves}
 use Rattle.wm_station.specs.Moments.{Holds, During}
 use Rattle.wm_journal.specs.Disk.{page}
 use Rattle.wm_journal.specs.Store.{Settles}
+use Rattle.wm_heap.specs.Content.{slots_in}
 use Rattle.wm_heap.specs.Places.{IsHeapOf}
+use Rattle.wm_heap.specs.Room.{KnowsRoom}
 use Rattle.wm_store.specs.Opened.{Held, SaysAs, HoldsAs}
-use Rattle.wm_store.specs.Stores.{IsStoreOf}
+use Rattle.wm_store.specs.Stores.{IsStoreOf, KnowsRoomOf}
 use Rattle.wm_store.proofs.Opening.{opened-closed}
 use Rattle.wm_store.proofs.Mending.{untouched_by, says_of, says_as, says_in, moments_say, holds_as, moments_hold, settles_hold, behind_page_0, held_on, store_on}
 use Rattle.wm_store.proofs.store.Store.open.Goals as goal
@@ -56,6 +58,11 @@ returns-clause-store g c = λ t.
     (c.in_ok-journal.ensures.rests t (subst (λ n. n * 4096 ≤ length (now (g.P.Station.history c.open.new.station))) count_is (c.in_ok-heap.ensures.size t)))
     (subst (λ n. IsHeapOf c.in_ok-heap.heap (page (now (g.P.Station.history c.open.new.station))) n) count_is (c.in_ok-heap.ensures.heap t))
     (held_on (g.P.Station.history c.args.station.now) (g.P.Station.history c.open.new.station) c.in_ok-heap.records (record { made = (c.in_ok-journal.ensures.store t).0; opens = (opened-closed (now (g.P.Station.history c.args.station.now)) (now (g.P.Station.history c.open.new.station)) c.count.result (c.in_ok-journal.ensures.store t).1 (c.in_ok-journal.ensures.keeps t) (c.in_ok-journal.ensures.closed t) (c.count.ensures.value ∙ c.in_ok-journal.ensures.count t)) ∙ c.in_ok-heap.ensures.records t }) (c.in_ok-journal.ensures.keeps t) (c.in_ok-journal.ensures.durable t)))
+
+pub returns-clause-room : goal.returns-clause-room
+returns-clause-room g c = λ t.
+    subst (KnowsRoomOf (record { journal = c.in_ok-journal.journal; heap = c.in_ok-heap.heap })) (sym (c.in_ok-heap.ensures.told t))
+    (subst (KnowsRoom c.in_ok-heap.heap.room (slots_in (page (now (g.P.Station.history c.open.new.station))))) c.count.ensures.value (c.in_ok-heap.ensures.room t))
 
 pub returns-clause-same : goal.returns-clause-same
 returns-clause-same g c = λ t.
