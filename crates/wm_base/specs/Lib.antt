@@ -3,5 +3,3 @@ pub mod Period
 pub mod Value
 pub mod Key
 pub mod Orders
-pub mod Trees
-pub mod Views

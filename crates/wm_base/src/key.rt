@@ -59,7 +59,10 @@ impl Key {
     pub fn compare(&self, q: &Key) -> Ordering
         ensures { result ≡ key_order self.now q.now }
     {
-        self.values().cmp(q.values())
+        match (self.values(), q.values()) {
+            ([Value::Num(one)], [Value::Num(other)]) => one.cmp(other),
+            (one, other) => compare_values(one, other),
+        }
     }
 
     pub fn equals(&self, q: &Key) -> bool
@@ -67,4 +70,12 @@ impl Key {
     {
         self.compare(q).is_eq()
     }
+}
+
+/// The order of the values of two keys. It stands apart, for most keys are one number and need none of it.
+#[inline(never)]
+fn compare_values(one: &[Value], other: &[Value]) -> Ordering
+    ensures { result ≡ key_order one.now other.now }
+{
+    one.cmp(other)
 }

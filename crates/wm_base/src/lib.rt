@@ -16,7 +16,6 @@ pub mod refusal;
 pub mod row;
 pub mod stamp;
 pub mod text;
-pub mod tree;
 pub mod truth;
 pub mod value;
 mod value_order;

@@ -1,11 +1,11 @@
 //! Queries: their items, sources and orders.
 ghost use Rattle.std.specs.Prelude.{◌≡◌};
 
-use crate::text::Name;
-use crate::tree::column::{Col, Cols};
-use crate::tree::cond::Cond;
-use crate::tree::expr::Expr;
+use crate::column::{Col, Cols};
+use crate::cond::Cond;
+use crate::expr::Expr;
 use std::marker::Model;
+use wm_base::Name;
 
 /// An aggregate.
 #[derive(Clone, Copy, Debug, PartialEq)]
@@ -72,7 +72,7 @@ pub struct Orders {
 
 impl Model for Orders {
     ghost use Rattle.std.specs.Prelude.{List};
-    ghost use Rattle.wm_base.specs.declared.tree.query.Order.{Order as OneOrder};
+    ghost use Rattle.wm_syntax.specs.declared.query.Order.{Order as OneOrder};
 
     ghost Value = { List OneOrder };
 

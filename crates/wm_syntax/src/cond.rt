@@ -1,6 +1,6 @@
 //! Conditions.
-use crate::tree::constant::Consts;
-use crate::tree::operand::Operand;
+use crate::constant::Consts;
+use crate::operand::Operand;
 
 /// A mark that compares.
 #[derive(Clone, Copy, Debug, PartialEq)]

@@ -1,7 +1,7 @@
 //! What conditions and expressions are made of.
-use crate::text::Name;
-use crate::tree::column::Col;
-use crate::tree::constant::{Const, PeriodEnd};
+use crate::column::Col;
+use crate::constant::{Const, PeriodEnd};
+use wm_base::Name;
 
 /// A period of a row, or one that is written.
 #[derive(Drop)]

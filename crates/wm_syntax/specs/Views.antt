@@ -1,23 +1,23 @@
 -- What a tree in memory is as a tree.
 use Rattle.std.specs.Prelude.{List, map, Option, option_map}
-use Rattle.wm_base.specs.declared.tree.expr.Expr.{Expr as ExprNode}
-use Rattle.wm_base.specs.declared.tree.expr.Expr.TheVariants as exprs
-use Rattle.wm_base.specs.declared.tree.cond.Cond.{Cond as CondNode}
-use Rattle.wm_base.specs.declared.tree.cond.Cond.TheVariants as conds
-use Rattle.wm_base.specs.declared.tree.query.Item.{Item as ItemNode}
-use Rattle.wm_base.specs.declared.tree.query.Item.TheVariants as items
-use Rattle.wm_base.specs.declared.tree.query.Out.{Out as OutNode}
-use Rattle.wm_base.specs.declared.tree.query.Projection.{Projection as ProjectionNode}
-use Rattle.wm_base.specs.declared.tree.query.Projection.TheVariants as projections
-use Rattle.wm_base.specs.declared.tree.query.Src.{Src as SrcNode}
-use Rattle.wm_base.specs.declared.tree.query.Query.{Query as QueryNode}
-use Rattle.wm_base.specs.declared.tree.statement.Set.{Set as SetNode}
-use Rattle.wm_base.specs.declared.tree.statement.Statement.{Statement as StatementNode}
-use Rattle.wm_base.specs.declared.tree.statement.Statement.TheVariants as statements
-use Rattle.wm_base.specs.declared.tree.line.Line.{Line as LineNode}
-use Rattle.wm_base.specs.declared.tree.line.Line.TheVariants as lines
-use Rattle.wm_base.specs.Trees as trees
-use Rattle.wm_base.specs.Trees.{Expr, Cond, Item, Out, Projection, Src, Query, Set, Statement, Line}
+use Rattle.wm_syntax.specs.declared.expr.Expr.{Expr as ExprNode}
+use Rattle.wm_syntax.specs.declared.expr.Expr.TheVariants as exprs
+use Rattle.wm_syntax.specs.declared.cond.Cond.{Cond as CondNode}
+use Rattle.wm_syntax.specs.declared.cond.Cond.TheVariants as conds
+use Rattle.wm_syntax.specs.declared.query.Item.{Item as ItemNode}
+use Rattle.wm_syntax.specs.declared.query.Item.TheVariants as items
+use Rattle.wm_syntax.specs.declared.query.Out.{Out as OutNode}
+use Rattle.wm_syntax.specs.declared.query.Projection.{Projection as ProjectionNode}
+use Rattle.wm_syntax.specs.declared.query.Projection.TheVariants as projections
+use Rattle.wm_syntax.specs.declared.query.Src.{Src as SrcNode}
+use Rattle.wm_syntax.specs.declared.query.Query.{Query as QueryNode}
+use Rattle.wm_syntax.specs.declared.statement.Set.{Set as SetNode}
+use Rattle.wm_syntax.specs.declared.statement.Statement.{Statement as StatementNode}
+use Rattle.wm_syntax.specs.declared.statement.Statement.TheVariants as statements
+use Rattle.wm_syntax.specs.declared.line.Line.{Line as LineNode}
+use Rattle.wm_syntax.specs.declared.line.Line.TheVariants as lines
+use Rattle.wm_syntax.specs.Trees as trees
+use Rattle.wm_syntax.specs.Trees.{Expr, Cond, Item, Out, Projection, Src, Query, Set, Statement, Line}
 
 abbrev pub expr_view : ExprNode → Expr
 expr_view (exprs.Operand x) = trees.Of x

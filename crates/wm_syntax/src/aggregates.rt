@@ -1,10 +1,10 @@
 //! Which queries answer groups of rows.
 ghost use Rattle.std.specs.Prelude.{◌≡◌};
 ghost use Rattle.std.specs.List.{list_any};
-ghost use Rattle.wm_base.specs.Trees.{Out as OutTree, is_aggregate, has_aggregate, is_grouped};
-ghost use Rattle.wm_base.specs.Views.{item_view, outs_view, projection_view, query_view};
+ghost use Rattle.wm_syntax.specs.Trees.{Out as OutTree, is_aggregate, has_aggregate, is_grouped};
+ghost use Rattle.wm_syntax.specs.Views.{item_view, outs_view, projection_view, query_view};
 
-use crate::tree::query::{Item, Out, Projection, Query};
+use crate::query::{Item, Out, Projection, Query};
 
 impl Item {
     pub fn is_aggregate(&self) -> bool

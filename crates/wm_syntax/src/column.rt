@@ -1,8 +1,8 @@
 //! Columns and names in a line.
 ghost use Rattle.std.specs.Prelude.{◌≡◌};
 
-use crate::text::Name;
 use std::marker::Model;
+use wm_base::Name;
 
 /// The end of a period that a column names.
 #[derive(Clone, Copy, Debug, PartialEq)]
@@ -27,7 +27,7 @@ pub struct Cols {
 
 impl Model for Cols {
     ghost use Rattle.std.specs.Prelude.{List};
-    ghost use Rattle.wm_base.specs.declared.tree.column.Col.{Col as OneCol};
+    ghost use Rattle.wm_syntax.specs.declared.column.Col.{Col as OneCol};
 
     ghost Value = { List OneCol };
 

@@ -1,14 +1,14 @@
 -- The trees of the lines, without where they lie in memory.
 use Rattle.std.specs.Prelude.{ℕ, Bool, true, false, ◌||◌, not, List, [], ◌∷◌, Option}
 use Rattle.std.specs.List.{list_any}
-use Rattle.wm_base.specs.declared.tree.column.Col.{Col}
-use Rattle.wm_base.specs.declared.tree.constant.Const.{Const}
-use Rattle.wm_base.specs.declared.tree.operand.Operand.{Operand}
-use Rattle.wm_base.specs.declared.tree.cond.Cmp.{Cmp}
-use Rattle.wm_base.specs.declared.tree.query.Agg.{Agg}
-use Rattle.wm_base.specs.declared.tree.query.Order.{Order}
-use Rattle.wm_base.specs.declared.tree.statement.CreateItem.{CreateItem}
-use Rattle.wm_base.specs.declared.tree.statement.Arg.{Arg}
+use Rattle.wm_syntax.specs.declared.column.Col.{Col}
+use Rattle.wm_syntax.specs.declared.constant.Const.{Const}
+use Rattle.wm_syntax.specs.declared.operand.Operand.{Operand}
+use Rattle.wm_syntax.specs.declared.cond.Cmp.{Cmp}
+use Rattle.wm_syntax.specs.declared.query.Agg.{Agg}
+use Rattle.wm_syntax.specs.declared.query.Order.{Order}
+use Rattle.wm_syntax.specs.declared.statement.CreateItem.{CreateItem}
+use Rattle.wm_syntax.specs.declared.statement.Arg.{Arg}
 
 pub data Expr : Type 0 where
   Of : Operand → Expr

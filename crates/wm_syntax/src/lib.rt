@@ -1,4 +1,5 @@
 //! The trees of the lines.
+#![tactic(auto)]
 
 pub mod aggregates;
 pub mod column;

@@ -1,5 +1,5 @@
 //! Expressions.
-use crate::tree::operand::Operand;
+use crate::operand::Operand;
 
 /// An expression. Parentheses leave no node, and chains nest to the left.
 #[derive(Drop)]

@@ -1,13 +1,13 @@
 //! Statements and what stands in them.
 ghost use Rattle.std.specs.Prelude.{◌≡◌};
 
-use crate::text::Name;
-use crate::tree::column::Names;
-use crate::tree::cond::Cond;
-use crate::tree::constant::Const;
-use crate::tree::expr::{Expr, Exprs};
-use crate::tree::query::Query;
+use crate::column::Names;
+use crate::cond::Cond;
+use crate::constant::Const;
+use crate::expr::{Expr, Exprs};
+use crate::query::Query;
 use std::marker::Model;
+use wm_base::Name;
 
 /// The type of a column; a text has at most so many bytes.
 #[derive(Clone, Copy, Debug, PartialEq)]
@@ -39,7 +39,7 @@ pub struct CreateItems {
 
 impl Model for CreateItems {
     ghost use Rattle.std.specs.Prelude.{List};
-    ghost use Rattle.wm_base.specs.declared.tree.statement.CreateItem.{CreateItem as OneItem};
+    ghost use Rattle.wm_syntax.specs.declared.statement.CreateItem.{CreateItem as OneItem};
 
     ghost Value = { List OneItem };
 
@@ -97,7 +97,7 @@ pub struct Args {
 
 impl Model for Args {
     ghost use Rattle.std.specs.Prelude.{List};
-    ghost use Rattle.wm_base.specs.declared.tree.statement.Arg.{Arg as OneArg};
+    ghost use Rattle.wm_syntax.specs.declared.statement.Arg.{Arg as OneArg};
 
     ghost Value = { List OneArg };
 

@@ -1,7 +1,6 @@
 //! A whole line.
-use crate::instant::Instant;
-use crate::text::Name;
-use crate::tree::statement::Statement;
+use crate::statement::Statement;
+use wm_base::{Instant, Name};
 
 /// A line that is no blank and no comment.
 #[derive(Drop)]

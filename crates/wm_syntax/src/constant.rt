@@ -1,9 +1,8 @@
 //! Constants.
 ghost use Rattle.std.specs.Prelude.{◌≡◌};
 
-use crate::instant::Instant;
-use crate::text::Text;
 use std::marker::Model;
+use wm_base::{Instant, Text};
 
 /// An end of a period.
 #[derive(Clone, Copy, Debug, PartialEq)]
@@ -34,7 +33,7 @@ pub struct Consts {
 
 impl Model for Consts {
     ghost use Rattle.std.specs.Prelude.{List};
-    ghost use Rattle.wm_base.specs.declared.tree.constant.Const.{Const as OneConst};
+    ghost use Rattle.wm_syntax.specs.declared.constant.Const.{Const as OneConst};
 
     ghost Value = { List OneConst };
 
