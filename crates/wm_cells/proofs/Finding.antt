@@ -45,16 +45,17 @@ pub record Finds {A : Type 0} (number : A → ℕ) (items : List A) (entries : L
 pub finds_none : {A : Type 0} (number : A → ℕ) → Finds number [] [] true
 finds_none number = record { finds = λ n. refl; differ = refl }
 
+-- something is there after a mapping where it was before
+pub some_mapped : {A B : Type 0} (f : A → B) (o : Option A) → is_some (option_map f o) ≡ is_some o
+some_mapped f None = refl
+some_mapped f (Some a) = refl
+
 -- what is looked up is there
 abbrev has : {A : Type 0} → List (ℕ × Bor A) → ℕ → Bool
 has entries n = is_some (lookup (is_at (nat_cmp n)) entries)
 
 found_has : {A : Type 0} (entries : List (ℕ × Bor A)) (n : ℕ) → is_some (found entries n) ≡ has entries n
-found_has {A} entries n = of (lookup (is_at (nat_cmp n)) entries)
-  where
-    of : (o : Option (Bor A)) → is_some (option_map (λ (r : Bor A). r.now) o) ≡ is_some o
-    of None = refl
-    of (Some r) = refl
+found_has {A} entries n = some_mapped (λ (r : Bor A). r.now) (lookup (is_at (nat_cmp n)) entries)
 
 -- one of the items has the number of one more, where one is found
 same_number : {A : Type 0} (number : A → ℕ) (items : List A) (entries : List (ℕ × Bor A)) (differs : Bool) (k : ℕ) (x : A) → Finds number items entries differs → k ≡ number x → list_any (λ y. number y == number x) items ≡ has entries k

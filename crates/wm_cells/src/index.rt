@@ -1,14 +1,14 @@
 //! Indexes of records by their numbers.
 
-ghost use Rattle.std.specs.Prelude.{◌≡◌, ℕ, ◌==◌, if◌then◌else◌, Some, OnOk, IfOk};
-ghost use Rattle.std.specs.List.{find, list_any};
+ghost use Rattle.std.specs.Prelude.{◌≡◌, ℕ, ◌==◌, IfOk};
+ghost use Rattle.std.specs.List.{find};
 ghost use Rattle.std.specs.Option.{option_copied};
 ghost use Rattle.wm_cells.specs.Lookups.{found, referred};
 ghost use Rattle.wm_graph.specs.Rules.{differ};
 
 use std::alloc::Global;
-use std::collections::BTreeMap;
 use wm_base::Memory;
+use wm_chunks::NumberMap;
 use wm_spec::record::{Lock, RowRecord, Savepoint, Space, Table, Version};
 
 /// What has a number among others of its kind.
@@ -67,8 +67,9 @@ impl Numbered for RowRecord {
     }
 }
 
-/// For each number the first item that has it.
-pub type Index<'a, T> = BTreeMap<u64, &'a T>;
+/// For each number the first item that has it. At opening numbers mostly ascend, and one that does is put behind all
+/// others without a search.
+pub type Index<'a, T> = NumberMap<&'a T>;
 
 /// The index of a list, and whether the numbers of its items differ.
 #[derive(Drop)]
@@ -81,7 +82,7 @@ pub struct Indexed<'a, T> {
 pub fn look<'a, T>(index: &Index<'a, T>, number: u64) -> Option<&'a T>
     ensures { option_copied result ≡ found index.now.entries number }
 {
-    index.get(&number).copied()
+    index.get(number).copied()
 }
 
 /// The index of the items.
@@ -89,11 +90,11 @@ pub fn index_of<'a, T: Numbered>(alloc: Global, items: &[&'a T]) -> Result<Index
     ensures finds { IfOk result (λ i. (n : ℕ) → found i.index.entries n ≡ find (λ x. T.number_of x == n) (referred items.now)) }
     ensures differ { IfOk result (λ i. i.differ ≡ differ (λ x y. T.number_of x == T.number_of y) (referred items.now)) }
 {
-    let mut index = BTreeMap::new(alloc);
+    let mut index = NumberMap::new(alloc);
     let mut differ = true;
     for item in items {
         let number = item.number();
-        if index.contains_key(&number) {
+        if index.get(number).is_some() {
             differ = false;
         } else {
             index.insert(number, *item)?;

@@ -9,7 +9,7 @@ use crate::fault::ReadFault;
 use crate::numbers::{u8_at, u16_at};
 use crate::values::{column_kind_at, flag_at, text_of, value_of};
 use std::alloc::Global;
-use wm_base::Values;
+use wm_base::{Memory, Values};
 use wm_spec::record::{TableColumn, TableColumns};
 
 pub fn column_of(alloc: Global, bytes: &[u8]) -> Result<(TableColumn, &[u8]), ReadFault>
@@ -34,14 +34,14 @@ pub fn column_of(alloc: Global, bytes: &[u8]) -> Result<(TableColumn, &[u8]), Re
 fn values_times(alloc: Global, count: u8, bytes: &[u8]) -> Result<(Values, &[u8]), ReadFault>
     ensures { Gives (λ x. (x.0, x.1.now)) result (times value count bytes.now) }
 {
-    let mut values = Values::with_capacity(alloc, usize::from(count))?;
+    let mut values = Vec::with_capacity(alloc, usize::from(count)).map_err(Memory::from)?;
     let mut rest = bytes;
     for _ in 0..count {
         let (value, after) = value_of(alloc, rest)?;
-        values.push(value)?;
+        values.push_reserved(value);
         rest = after;
     }
-    Ok((values, rest))
+    Ok((Values::from_vec(values), rest))
 }
 
 /// So many columns.

@@ -19,41 +19,36 @@ pub fn u8_at(bytes: &[u8]) -> Result<(u8, &[u8]), ReadFault>
 pub fn u16_at(bytes: &[u8]) -> Result<(u16, &[u8]), ReadFault>
     ensures { Gives (λ x. (x.0, x.1.now)) result (number_at w16 bytes.now) }
 {
-    if bytes.len() < 2 {
+    let Some((number, rest)) = bytes.split_first_chunk::<2>() else {
         return Err(ReadFault::NoRecord);
-    }
-    let (front, rest) = bytes.split_at(2);
-    Ok((u16::from_be_bytes([front[0], front[1]]), rest))
+    };
+    Ok((u16::from_be_bytes(*number), rest))
 }
 
 pub fn u32_at(bytes: &[u8]) -> Result<(u32, &[u8]), ReadFault>
     ensures { Gives (λ x. (x.0, x.1.now)) result (number_at w32 bytes.now) }
 {
-    if bytes.len() < 4 {
+    let Some((number, rest)) = bytes.split_first_chunk::<4>() else {
         return Err(ReadFault::NoRecord);
-    }
-    let (front, rest) = bytes.split_at(4);
-    let number = u32::from_be_bytes([front[0], front[1], front[2], front[3]]);
-    Ok((number, rest))
+    };
+    Ok((u32::from_be_bytes(*number), rest))
 }
 
 pub fn u64_at(bytes: &[u8]) -> Result<(u64, &[u8]), ReadFault>
     ensures { Gives (λ x. (x.0, x.1.now)) result (number_at w64 bytes.now) }
 {
-    if bytes.len() < 8 {
+    let Some((number, rest)) = bytes.split_first_chunk::<8>() else {
         return Err(ReadFault::NoRecord);
-    }
-    let (front, rest) = bytes.split_at(8);
-    let number = u64::from_be_bytes([
-        front[0], front[1], front[2], front[3], front[4], front[5], front[6], front[7],
-    ]);
-    Ok((number, rest))
+    };
+    Ok((u64::from_be_bytes(*number), rest))
 }
 
 /// A number in two's complement.
 pub fn i64_at(bytes: &[u8]) -> Result<(i64, &[u8]), ReadFault>
     ensures { Gives (λ x. (x.0, x.1.now)) result (i64.read bytes.now) }
 {
-    let (number, rest) = u64_at(bytes)?;
-    Ok((number.cast_signed(), rest))
+    let Some((number, rest)) = bytes.split_first_chunk::<8>() else {
+        return Err(ReadFault::NoRecord);
+    };
+    Ok((u64::from_be_bytes(*number).cast_signed(), rest))
 }

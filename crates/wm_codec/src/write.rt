@@ -11,6 +11,7 @@ use crate::put::{
     put_lock_mode, put_text, put_u16, put_u32, put_u64, put_value,
 };
 use std::alloc::Global;
+use std::mem::swap;
 use wm_base::{Bytes, Memory, Value, Values};
 use wm_spec::record::{
     Counters, Hist, Lock, PieceRecord, Record, RowRecord, Savepoint, Space, Table, TableColumn,
@@ -264,6 +265,14 @@ pub fn encode(alloc: Global, what: &Record, into: &mut Bytes) -> Result<(), Memo
     ensures err { OnErr result (into.new ≡ into.old) }
 {
     let mut bytes = Bytes::new(alloc);
+    if into.is_empty() {
+        // The room that the caller has made serves, and nothing is copied.
+        swap(into, &mut bytes);
+    }
     put_record(&mut bytes, what)?;
+    if into.is_empty() {
+        *into = bytes;
+        return Ok(());
+    }
     into.append(bytes.as_slice())
 }

@@ -10,7 +10,7 @@ use Rattle.wm_spec.specs.declared.record.Record.{Record}
 use Rattle.wm_spec.specs.declared.record.stored.Stored.{Stored}
 use Rattle.wm_state.specs.ById.{AllAbove, Ascend, set_at}
 use Rattle.wm_state.proofs.ById.{Ascend-set}
-use Rattle.wm_index.proofs.IdLists.{less_is}
+use Rattle.wm_ids.proofs.IdLists.{less_is}
 use Rattle.wm_records.proofs.Listed.{Ascend-listed}
 use Rattle.wm_records.proofs.Lists.{ids_with-set}
 use Rattle.wm_index.specs.Indexed.{IdsAscend, IsIndexed, ids_at, listed}

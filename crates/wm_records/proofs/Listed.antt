@@ -12,9 +12,9 @@ use Rattle.wm_spec.specs.declared.record.batch.Change.{Change}
 use Rattle.wm_spec.specs.declared.record.stored.Stored.{Stored}
 use Rattle.wm_state.specs.ById.{AllAbove, Ascend, set_at, applied}
 use Rattle.wm_state.proofs.ById.{one_order, Ascend-set, record_at-set}
-use Rattle.wm_index.proofs.IdLists.{less_than}
+use Rattle.wm_ids.proofs.IdLists.{less_than}
+use Rattle.wm_ids.proofs.TableLists.{is_at-number}
 use Rattle.wm_index.proofs.Listed.{record_at-listed, same_test}
-use Rattle.wm_index.proofs.TableLists.{is_at-number}
 use Rattle.wm_index.specs.Indexed.{listed}
 
 AllAbove-listed : (id : ℕ) (es : List (ℕ × Record)) → AllByRecursion (λ k. nat_cmp id k ≡ Less) (keys_of es) → AllAbove id (listed es)

@@ -10,9 +10,10 @@ use Rattle.wm_spec.specs.declared.record.Record.{Record}
 use Rattle.wm_spec.specs.declared.record.stored.Stored.{Stored}
 use Rattle.wm_state.specs.ById.{AllAbove, Ascend, perhaps_before, set_at}
 use Rattle.wm_state.proofs.ById.{AllAbove-less}
-use Rattle.wm_index.proofs.IdLists.{greater_is, less_is}
+use Rattle.wm_ids.proofs.IdLists.{greater_is, less_is}
+use Rattle.wm_ids.specs.Ids.{placed, without}
 use Rattle.wm_index.proofs.Lists.{ids_of, record_at-none, record_at-here, record_at-away}
-use Rattle.wm_index.specs.Sought.{ids_with, placed, without, ids_less, ids_more}
+use Rattle.wm_index.specs.Sought.{ids_with, ids_less, ids_more}
 
 pub record_at-above : (id : ℕ) (ss : List Stored) → AllAbove id ss → record_at ss id ≡ None
 record_at-above id [] above = record_at-none id

@@ -9,13 +9,13 @@ use Rattle.wm_chunks.specs.Numbers.{AreOrdered, Numbers}
 use Rattle.wm_graph.specs.Parts.{as_piece}
 use Rattle.wm_records.proofs.Listed.{Ascend-listed}
 use Rattle.wm_records.proofs.Lists.{ids_with-set, ids-sorted}
-use Rattle.wm_index.proofs.Placing.{none_from}
+use Rattle.wm_ids.proofs.Placing.{none_from}
+use Rattle.wm_ids.specs.Versioned.{AllNested, AllSpanned, AreNested, AreSpanned, ChangedWhere, GainsAny, HasLess, HasMore, IsPieceAt, IsSpanned, LosesAny, Versions, VersionsFrom, ids_under, versions_on}
+use Rattle.wm_ids.specs.declared.versioned.Versioned.{Versioned}
 use Rattle.wm_index.proofs.Touched.{among_with, has_id}
 use Rattle.wm_index.specs.Indexed.{IsIndexed, ids_at, listed}
 use Rattle.wm_index.specs.Sought.{Sought, PieceAt, is_sought, ids_less, ids_with}
-use Rattle.wm_index.specs.Versioned.{AllNested, AllSpanned, AreNested, AreSpanned, ChangedWhere, GainsAny, HasLess, HasMore, IsPieceAt, IsSpanned, LosesAny, Versions, VersionsFrom, ids_under, versions_on}
 use Rattle.wm_index.specs.declared.index.Index.{Index}
-use Rattle.wm_index.specs.declared.versioned.Versioned.{Versioned}
 use Rattle.wm_spec.specs.Records.{record_at}
 use Rattle.wm_spec.specs.declared.record.Record.{Record}
 use Rattle.wm_spec.specs.declared.record.Record.TheVariants as records

@@ -39,47 +39,27 @@ fn set(kept: &mut Kept, id: u64, becomes: Option<Record>) -> Result<(), Memory>
     Ok(())
 }
 
-/// Makes the index that of the records that stand when one comes under an id, or none: the old one goes from it, the
-/// new one comes. Tells whether a table was or is there.
+/// Makes the index and the hops those of the records that stand when one comes under an id, or none: the old one goes
+/// from them, the new one comes. Tells whether a table was or is there.
 fn reindex(
     alloc: Global,
     kept: &Kept,
     index: &mut Index,
+    hops: &mut Hops,
     id: u64,
     becomes: &Option<Record>,
 ) -> Result<bool, Memory>
-    requires { IsIndexed kept.now index.old }
+    requires indexed { IsIndexed kept.now index.old }
+    requires hops { AreHops (parts_of (listed kept.now.entries)).versions hops.old }
     ensures indexed { OnOk result ((next : Numbers OneRecord) → AreOrdered next.entries → listed next.entries ≡ set_at id becomes.now (listed kept.now.entries) → IsIndexed next index.new) }
     ensures tables { IfOk result (λ touched. touched ≡ false → (parts_of (set_at id becomes.now (listed kept.now.entries))).tables ≡ (parts_of (listed kept.now.entries)).tables) }
+    ensures hops { OnOk result (AreHops (parts_of (set_at id becomes.now (listed kept.now.entries))).versions hops.new) }
 {
-    let stood = drop_old(kept, index, id)?;
+    let found = at(kept, id);
+    let stood = drop_old(index, id, found);
     let stands = add_new(alloc, index, id, becomes)?;
+    hops.follow(version_of(found), version_of(becomes.as_ref()))?;
     Ok(is_either(stood, stands))
-}
-
-/// Changes what stands under an id, and the index with it, and tells whether a table was or is there.
-fn change(
-    alloc: Global,
-    kept: &mut Kept,
-    index: &mut Index,
-    id: u64,
-    becomes: Option<Record>,
-) -> Result<bool, Memory>
-    requires { IsIndexed kept.old index.old }
-    ensures listed { OnOk result (listed kept.new.entries ≡ set_at id becomes (listed kept.old.entries)) }
-    ensures indexed { OnOk result (IsIndexed kept.new index.new) }
-    ensures tables { IfOk result (λ touched. touched ≡ false → (parts_of (listed kept.new.entries)).tables ≡ (parts_of (listed kept.old.entries)).tables) }
-{
-    match reindex(alloc, kept, index, id, &becomes) {
-        Ok(touched) => {
-            set(kept, id, becomes)?;
-            Ok(touched)
-        }
-        Err(fault) => {
-            drop(becomes);
-            Err(fault)
-        }
-    }
 }
 
 /// Changes what stands under an id, and the index and the hops with it, and tells whether a table was or is there.
@@ -98,11 +78,16 @@ pub fn change_one(
     ensures tables { IfOk result (λ touched. touched ≡ false → (parts_of (listed kept.new.entries)).tables ≡ (parts_of (listed kept.old.entries)).tables) }
     ensures hops { OnOk result (AreHops (parts_of (listed kept.new.entries)).versions hops.new) }
 {
-    let goes = version_of(at(kept, id));
-    let comes = version_of(becomes.as_ref());
-    let touched = change(alloc, kept, index, id, becomes)?;
-    hops.follow(goes, comes)?;
-    Ok(touched)
+    match reindex(alloc, kept, index, hops, id, &becomes) {
+        Ok(touched) => {
+            set(kept, id, becomes)?;
+            Ok(touched)
+        }
+        Err(fault) => {
+            drop(becomes);
+            Err(fault)
+        }
+    }
 }
 
 /// Makes the changes of a batch, one after another, and tells whether a table was or is under one of their ids.

@@ -5,14 +5,14 @@ use Rattle.std.specs.declared.cmp.Ordering.{Ordering}
 use Rattle.std.specs.Ordering.{is_eq, is_lt, is_gt}
 use Rattle.wm_base.specs.declared.columns.Column.{Column}
 use Rattle.wm_base.specs.declared.row.Row.{Row}
-use Rattle.wm_base.specs.declared.tree.cond.Cmp.{Cmp}
-use Rattle.wm_base.specs.declared.tree.cond.Cmp.TheVariants.{Eq, NotEq, BangEq, Lt, Le, Gt, Ge}
-use Rattle.wm_base.specs.declared.tree.constant.Const.{Const}
+use Rattle.wm_syntax.specs.declared.cond.Cmp.{Cmp}
+use Rattle.wm_syntax.specs.declared.cond.Cmp.TheVariants.{Eq, NotEq, BangEq, Lt, Le, Gt, Ge}
+use Rattle.wm_syntax.specs.declared.constant.Const.{Const}
 use Rattle.wm_base.specs.declared.truth.Truth.{Truth}
 use Rattle.wm_base.specs.declared.truth.Truth.TheVariants.{Yes, No, Unknown}
 use Rattle.wm_base.specs.declared.value.Value.{Value}
 use Rattle.wm_base.specs.declared.value.Value.TheVariants as values
-use Rattle.wm_base.specs.Trees.{Cond, Or, And, Not, Compare, IsNull, OneOf, Between}
+use Rattle.wm_syntax.specs.Trees.{Cond, Or, And, Not, Compare, IsNull, OneOf, Between}
 use Rattle.wm_base.specs.Truth.{truth_and, truth_or, truth_not}
 use Rattle.wm_base.specs.Value.{compare_of}
 use Rattle.wm_spec.specs.Operands.{operand_kind, operand_value, constant_kind, constant_value, fits_columns}

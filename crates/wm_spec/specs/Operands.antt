@@ -2,18 +2,18 @@
 use Rattle.std.specs.Prelude.{ℕ, Bool, true, false, ◌&&◌, ◌||◌, ◌==◌, List, [], ◌∷◌, count_by, slice_get, Option, Some, None, option_and_then, option_map, unwrap_or, bytes_eq, codes, if◌then◌else◌, pos}
 use Rattle.std.specs.List.{position}
 use Rattle.wm_base.specs.declared.columns.Column.{Column}
-use Rattle.wm_base.specs.declared.tree.column.Suffix.{Suffix}
-use Rattle.wm_base.specs.declared.tree.column.Suffix.TheVariants.{ValidFrom, ValidTill}
-use Rattle.wm_base.specs.declared.tree.constant.PeriodEnd.{PeriodEnd}
-use Rattle.wm_base.specs.declared.tree.constant.PeriodEnd.TheVariants as ends
-use Rattle.wm_base.specs.declared.tree.constant.Const.{Const}
-use Rattle.wm_base.specs.declared.tree.constant.Const.TheVariants as constants
-use Rattle.wm_base.specs.declared.tree.operand.Per.{Per}
-use Rattle.wm_base.specs.declared.tree.operand.Per.TheVariants as periods
-use Rattle.wm_base.specs.declared.tree.operand.Operator.{Operator}
-use Rattle.wm_base.specs.declared.tree.operand.Operator.TheVariants.{Overlaps, Contains, Meets, Equals, LessThan, GreaterThan}
-use Rattle.wm_base.specs.declared.tree.operand.Operand.{Operand}
-use Rattle.wm_base.specs.declared.tree.operand.Operand.TheVariants as operands
+use Rattle.wm_syntax.specs.declared.column.Suffix.{Suffix}
+use Rattle.wm_syntax.specs.declared.column.Suffix.TheVariants.{ValidFrom, ValidTill}
+use Rattle.wm_syntax.specs.declared.constant.PeriodEnd.{PeriodEnd}
+use Rattle.wm_syntax.specs.declared.constant.PeriodEnd.TheVariants as ends
+use Rattle.wm_syntax.specs.declared.constant.Const.{Const}
+use Rattle.wm_syntax.specs.declared.constant.Const.TheVariants as constants
+use Rattle.wm_syntax.specs.declared.operand.Per.{Per}
+use Rattle.wm_syntax.specs.declared.operand.Per.TheVariants as periods
+use Rattle.wm_syntax.specs.declared.operand.Operator.{Operator}
+use Rattle.wm_syntax.specs.declared.operand.Operator.TheVariants.{Overlaps, Contains, Meets, Equals, LessThan, GreaterThan}
+use Rattle.wm_syntax.specs.declared.operand.Operand.{Operand}
+use Rattle.wm_syntax.specs.declared.operand.Operand.TheVariants as operands
 use Rattle.wm_base.specs.declared.value.Value.{Value}
 use Rattle.wm_base.specs.declared.value.Value.TheVariants as values
 use Rattle.wm_base.specs.Period.{Span, overlaps, contains, meets, equals, before, after}
