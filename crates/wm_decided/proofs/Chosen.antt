@@ -14,7 +14,7 @@ use Rattle.wm_spec.proofs.Stretches.{Steady, Steady-alike, Steady-then, Up, Up-c
 use Rattle.wm_spec.specs.Lists.{Cell, Entry, Told, covers, told}
 use Rattle.wm_spec.specs.Stretches.{cuts}
 use Rattle.wm_state.specs.State.{Decision}
-use Rattle.wm_decided.proofs.Uniquely.{Changes}
+use Rattle.wm_net.proofs.Listing.{Changes}
 use Rattle.wm_decided.specs.Counted.{copy_from, decision_in, place_at}
 use Rattle.wm_decided.specs.Netted.{Copy, cells_decided, chosen_at, copied_at, ends_decided}
 

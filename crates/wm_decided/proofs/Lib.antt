@@ -9,4 +9,3 @@ pub mod Netting
 pub mod Placed
 pub mod Pushed
 pub mod Sources
-pub mod Uniquely

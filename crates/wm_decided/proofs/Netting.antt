@@ -30,7 +30,7 @@ use Rattle.wm_decided.proofs.Chosen.{Changes-chosen, Changes-copied, chosen_is, 
 use Rattle.wm_decided.proofs.Copying.{copies_block}
 use Rattle.wm_decided.proofs.Laid.{tied}
 use Rattle.wm_decided.proofs.Placed.{Tells, all_within, last_within, places_block}
-use Rattle.wm_decided.proofs.Uniquely.{is_listing}
+use Rattle.wm_net.proofs.Listing.{is_listing}
 use Rattle.wm_decided.specs.Counted.{IsSound, Place, copies_over, copy_from, decision_in, group_in, held_under, mark_by, place_at, place_order, placed, places_over}
 use Rattle.wm_decided.specs.Netted.{Copy, cells_decided, ends_decided, entries_decided, entry_copied, mark_for, marks_of, same_choice, same_copy}
 

@@ -15,7 +15,7 @@ use Rattle.wm_spec.specs.Lists.{Cell, Entry, Told, covers, told_of}
 use Rattle.wm_spec.specs.Stretches.{cuts}
 use Rattle.wm_state.specs.State.{Decision}
 use Rattle.wm_decided.proofs.Chosen.{Changes-chosen, Changes-copied, choice_in, chosen_is, copied_is, place_covers}
-use Rattle.wm_decided.proofs.Uniquely.{Changes}
+use Rattle.wm_net.proofs.Listing.{Changes}
 use Rattle.wm_decided.specs.Counted.{copy_from, decision_in, place_at}
 use Rattle.wm_decided.specs.Netted.{Copy, cells_decided, chosen_at, copied_at, ends_decided, entries_decided, entry_copied, mark_for, marks_of, same_choice, same_copy}
 

@@ -1,16 +1,16 @@
 //! Conditions over the key columns of a table.
 ghost use Rattle.std.specs.Prelude.{◌≡◌, map, None, option_copied, slice_get, IfOk, true};
-ghost use Rattle.wm_base.specs.Views.{filter_view};
+ghost use Rattle.wm_syntax.specs.Views.{filter_view};
 ghost use Rattle.wm_decided.specs.Keys.{columns_of_keys, key_as_row, key_columns};
 ghost use Rattle.wm_typing.specs.Columns.{declared_column};
 ghost use Rattle.wm_typing.specs.Names.{unknown_in_filter};
 ghost use Rattle.wm_typing.specs.Types.{is_filter_typed, mistyped_in_filter};
 
 use std::alloc::Global;
-use wm_base::tree::cond::Cond;
 use wm_base::values::copies_of;
 use wm_base::{Column, Columns, Key, Memory, Name, Row, Value, Values};
 use wm_spec::record::Table;
+use wm_syntax::cond::Cond;
 use wm_typing::columns::{columns_of_table, valid_column};
 use wm_typing::names::unknown_in_filter;
 use wm_typing::types::mistyped_in_filter;

@@ -13,36 +13,12 @@ use Rattle.wm_spec.specs.declared.record.space.Space.{Space}
 use Rattle.wm_state.specs.State.{Durable, Workspace, Savepoint, workspace_of, with_space, with_savepoint, savepoint_made, savepoints_of}
 use Rattle.wm_state.specs.Standing.{SpaceFields, fields_of, fields_in, saved_fields, fields_saved, by_making, saved_in, saved_as, by_number, CountersStand, SpacesStand, SavepointsStand, FieldsStand}
 use Rattle.wm_state.specs.Effects.{Saved, marked}
-use Rattle.wm_state.proofs.Changing.{workspace_of-changed}
+use Rattle.wm_state.proofs.Changing.{WasChanged, told_still, was_changed, workspace_of-changed}
 use Rattle.wm_state.proofs.Frames.{savepoints_of-found, OnceStand-changed}
 use Rattle.wm_state.proofs.Making.{making-push, all-making}
 use Rattle.wm_state.proofs.Mapped.{all-alike, find-skip}
 use Rattle.wm_state.proofs.Naming.{StillNames}
 use Rattle.wm_state.proofs.Tests.{all_filter, find_new, none_if}
-
--- ---- a workspace that was changed
-
--- a workspace of after is one of before, changed where it is the one
-pub record WasChanged (n : ℕ) (act : Workspace → Workspace) (ws : List Workspace) (m : ℕ) (new : Workspace) : Type 0 where
-  pub old : Workspace
-  pub is : workspace_of ws m ≡ Some old
-  pub how : ((m ≡ n) × (new ≡ act old)) ⊎ ((m ≢ n) × (new ≡ old))
-
-pub was_changed : (n : ℕ) (act : Workspace → Workspace) → ((w : Workspace) → (act w).number ≡ w.number) → (ws : List Workspace) (m : ℕ) (new : Workspace)
-    → workspace_of (with_space n act ws) m ≡ Some new → WasChanged n act ws m new
-was_changed n act same ws m new is = by_number (cases_eq m n) (workspace_of ws m) refl
-  where
-    here_is : m ≡ n → workspace_of (with_space n act ws) m ≡ option_map act (workspace_of ws m)
-    here_is here = workspace_of-changed n act same ws m ∙ ap (λ b. cond b (option_map act (workspace_of ws m)) (workspace_of ws m)) (eq-eqb _ _ here)
-
-    away_is : m ≢ n → workspace_of (with_space n act ws) m ≡ workspace_of ws m
-    away_is away = workspace_of-changed n act same ws m ∙ ap (λ b. cond b (option_map act (workspace_of ws m)) (workspace_of ws m)) (ne_eqb _ _ away)
-
-    by_number : (m ≡ n) ⊎ (m ≢ n) → (o : Option Workspace) → workspace_of ws m ≡ o → WasChanged n act ws m new
-    by_number (inl here) None found = absurd (none_some (workspace_of (with_space n act ws) m) new (here_is here ∙ ap (option_map act) found) is)
-    by_number (inl here) (Some w) found = record { old = w; is = found; how = inl (here, same_Some new (act w) (sym is ∙ here_is here ∙ ap (option_map act) found)) }
-    by_number (inr away) None found = absurd (none_some (workspace_of (with_space n act ws) m) new (away_is away ∙ found) is)
-    by_number (inr away) (Some w) found = record { old = w; is = found; how = inr (away, same_Some new w (sym is ∙ away_is away ∙ found)) }
 
 -- a workspace of after a savepoint, by what it was before
 pub record WasSaved (n place implicit : ℕ) (k : Savepoint) (ws : List Workspace) (m : ℕ) (new : Workspace) : Type 0 where
@@ -61,16 +37,12 @@ was_saved n place implicit k ws m new is = by_case (was_changed n (with_savepoin
     by_case x = record {
       old = x.old;
       is = x.is;
-      lists = part (λ (w : Workspace). w.lists) (λ w. refl) x.how;
-      parent = part (λ (w : Workspace). w.parent) (λ w. refl) x.how;
-      rebases = part (λ (w : Workspace). w.rebases) (λ w. refl) x.how;
-      turns = part (λ (w : Workspace). w.turns) (λ w. refl) x.how;
+      lists = told_still n (with_savepoint place implicit k) ws m new (λ (w : Workspace). w.lists) (λ w. refl) x;
+      parent = told_still n (with_savepoint place implicit k) ws m new (λ (w : Workspace). w.parent) (λ w. refl) x;
+      rebases = told_still n (with_savepoint place implicit k) ws m new (λ (w : Workspace). w.rebases) (λ w. refl) x;
+      turns = told_still n (with_savepoint place implicit k) ws m new (λ (w : Workspace). w.turns) (λ w. refl) x;
       how = x.how;
     }
-      where
-        part : {A : Type 0} (f : Workspace → A) → ((w : Workspace) → f (with_savepoint place implicit k w) ≡ f w) → ((m ≡ n) × (new ≡ with_savepoint place implicit k x.old)) ⊎ ((m ≢ n) × (new ≡ x.old)) → f new ≡ f x.old
-        part f same (inl h) = ap f h.1 ∙ same x.old
-        part f same (inr h) = ap f h.1
 
 -- a record of a workspace of after names the versions that it named
 pub had_mark : (p q : Parts) (n place implicit : ℕ) (x : Record) → Saved p q n place implicit x → (m : ℕ) (new : Space) → space_of q.spaces m ≡ Some new → StillNames p m new

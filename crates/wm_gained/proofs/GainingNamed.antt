@@ -3,20 +3,21 @@ use Rattle.std.proofs.Common.{◌≡◌, ℕ, true, List, Some, is_some, refl, a
 use Rattle.wm_graph.specs.Parts.{Parts}
 use Rattle.wm_graph.specs.Rules.{keep_rules}
 use Rattle.wm_spec.specs.Lists.{Entry, Cell}
-use Rattle.wm_spec.specs.declared.record.space.Space.{Space}
 use Rattle.wm_state.specs.State.{content, with_gained, with_space, workspace_of, Durable, Workspace}
 use Rattle.wm_state.specs.Standing.{Covers, NamedStand, Newest, Own, Owns, OwnsStand, SpacesStand, have_ends, latest, seen, seen_above}
+use Rattle.wm_state.proofs.Changing.{WasChanged, told_still}
 use Rattle.wm_state.proofs.Keeping.{KeepRows-same}
-use Rattle.wm_state.proofs.Naming.{Carries, Framed, IsKeptOwn, IsMarked, IsNewest, IsNewestOwn, Named-as, NamedStand-kept, Owned-as, OwnsStand-kept, Still, StillNames, WasNamed, carries-same, named_framed, owns_framed, past_framed, stays-changed}
+use Rattle.wm_state.proofs.Naming.{Carries, Framed, IsKeptOwn, IsMarked, IsNewest, IsNewestOwn, Named-as, NamedStand-kept, Owned-as, OwnsStand-kept, WasNamed, carries-same, named_framed, owns_framed, past_framed, stays-changed}
+use Rattle.wm_written.proofs.Longer.{before, framed_longer}
 use Rattle.wm_gained.specs.Gaining.{Gained}
-use Rattle.wm_gained.proofs.Gained.{HadGained, WasGained, had_gained, part_gained, was_gained}
+use Rattle.wm_gained.proofs.Gained.{longer_gained}
 
 module _ (p q : Parts) (s t : Durable) (n : ℕ) (es : List Entry) (g : Gained p q n es) (spaces : t.spaces ≡ with_space n (with_gained es) s.spaces) where
-  before : (m : ℕ) (new : Workspace) → workspace_of t.spaces m ≡ Some new → WasGained n es s.spaces m new
-  before m new is = was_gained n es s.spaces t.spaces spaces m new is
+  was_one : (m : ℕ) (new : Workspace) → workspace_of t.spaces m ≡ Some new → WasChanged n (with_gained es) s.spaces m new
+  was_one m new is = before p q s t n es (λ own. own) (longer_gained p q n es g) spaces m new is
 
-  part : {A : Type 0} (m : ℕ) (new : Workspace) (f : Workspace → A) → ((w : Workspace) → f (with_gained es w) ≡ f w) → (y : WasGained n es s.spaces m new) → f new ≡ f y.old
-  part m new f same y = part_gained n es s.spaces m new f same y
+  part : {A : Type 0} (m : ℕ) (new : Workspace) (f : Workspace → A) → ((w : Workspace) → f (with_gained es w) ≡ f w) → (y : WasChanged n (with_gained es) s.spaces m new) → f new ≡ f y.old
+  part m new f same y = told_still n (with_gained es) s.spaces m new f same y
 
   -- versions and pieces are those of before
   versions_still : q.versions ≡ p.versions
@@ -28,26 +29,8 @@ module _ (p q : Parts) (s t : Durable) (n : ℕ) (es : List Entry) (g : Gained p
   sees_still : (v : ℕ) (c : Cell) → seen q v c ≡ seen p v c
   sees_still v c = ap (λ (z : Parts). seen z v c) g.rest
 
-  -- no savepoint and no workspace is new
   framed_gained : Framed p q s t
-  framed_gained = record { savepoints = ap (λ (z : Parts). z.savepoints) g.rest; still = λ m new is. still m new (before m new is); names = λ m r recorded. names m r (had_gained p q n es g m r recorded) }
-    where
-      still : (m : ℕ) (new : Workspace) → WasGained n es s.spaces m new → Still s m new
-      still m new y = record {
-        old = y.old;
-        is = y.is;
-        parent = part m new (λ (w : Workspace). w.parent) (λ w. refl) y;
-        savepoints = part m new (λ (w : Workspace). w.savepoints) (λ w. refl) y;
-        rebases = part m new (λ (w : Workspace). w.rebases) (λ w. refl) y;
-        turns = part m new (λ (w : Workspace). w.turns) (λ w. refl) y;
-        base = part m new (λ (w : Workspace). w.lists.base) (λ w. refl) y;
-      }
-
-      names : (m : ℕ) (new : Space) → HadGained p n es m new → StillNames p m new
-      names m new y = ⊎_elim
-          (λ h. record { old = y.old; is = y.is; birth = ap (λ (k : Space). k.birth_version) h.1; base = ap (λ (k : Space). k.base_version) h.1 })
-          (λ h. record { old = y.old; is = y.is; birth = ap (λ (k : Space). k.birth_version) h.1; base = ap (λ (k : Space). k.base_version) h.1 })
-          y.how
+  framed_gained = framed_longer p q s t n es (λ own. own) (longer_gained p q n es g) spaces
 
   carries_gained : Carries p q s.spaces t.spaces
   carries_gained = carries-same p q s.spaces t.spaces versions_still (ap (λ (z : Parts). z.pieces) g.rest)
@@ -64,7 +47,7 @@ module _ (p q : Parts) (s t : Durable) (n : ℕ) (es : List Entry) (g : Gained p
 
       newest : (v m r : ℕ) (fs : List Entry) → IsNewest q t v m r fs → WasNamed p q s v m r fs
       newest v m r fs k =
-          let y = before m k.now k.is in
+          let y = was_one m k.now k.is in
           record {
             named = Named-as p s _ _ _ _ _ _ _ _ (k.version ∙ newest_still m) refl (k.rebases ∙ part m k.now (λ (w : Workspace). w.rebases) (λ w. refl) y) (k.content ∙ part m k.now content (λ w. refl) y) (Newest y.old y.is);
             sees = sees_still v;
@@ -82,5 +65,5 @@ module _ (p q : Parts) (s t : Durable) (n : ℕ) (es : List Entry) (g : Gained p
     where
       newest : (base v : ℕ) (fs : List Entry) → IsNewestOwn p q t base v fs → Owns p s base v fs
       newest base v fs k =
-          let y = before k.number k.now k.is in
+          let y = was_one k.number k.now k.is in
           Owned-as p s _ _ _ _ _ _ k.under (k.over ∙ newest_still k.number) (k.own ∙ part k.number k.now (λ (w : Workspace). w.lists.own) (λ w. refl) y) (Own k.number y.old k.old y.is k.recorded)

@@ -1,6 +1,5 @@
 pub mod Gained
 pub mod GainingNamed
-pub mod GainingLogs
 pub mod GainingStands
 pub mod OldEntries
 pub mod KeepLogged

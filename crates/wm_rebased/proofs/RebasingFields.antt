@@ -14,12 +14,11 @@ use Rattle.wm_spec.specs.declared.record.space.Space.{Space}
 use Rattle.wm_state.specs.State.{Durable, Workspace, savepoints_of, turn_of, with_space, workspace_of}
 use Rattle.wm_state.specs.Standing.{CountersStand, FieldsStand, SpaceFields, SpacesStand, TurnsStand, by_number, fields_in, fields_of, latest}
 use Rattle.wm_state.proofs.Apart.{found-passes}
-use Rattle.wm_state.proofs.Changing.{workspace_of-changed}
+use Rattle.wm_state.proofs.Changing.{WasChanged, told_still, was_changed, workspace_of-changed}
 use Rattle.wm_state.proofs.Climbing.{recorded_of}
 use Rattle.wm_state.proofs.Frames.{OnceStand-changed, SavepointsStand-same, savepoints_of-found, savepoints_of-none}
 use Rattle.wm_state.proofs.Named.{space_number}
 use Rattle.wm_state.proofs.Spaces.{ruled_spaces, space_there}
-use Rattle.wm_forked.proofs.Saving.{WasChanged, was_changed}
 use Rattle.wm_rebased.specs.Rebasing.{IsRebase, RebasedTo, rebased_on}
 use Rattle.wm_state.specs.Editing.{rebased, turn_on}
 
@@ -75,16 +74,12 @@ was_rebased n emptied parent ws m new is = by_case (was_changed n (rebased empti
     by_case x = record {
       old = x.old;
       is = x.is;
-      parent_is = part (λ (w : Workspace). w.parent) (λ w. refl) x.how;
-      savepoints = part (λ (w : Workspace). w.savepoints) (λ w. refl) x.how;
-      place = part (λ (w : Workspace). w.next_place) (λ w. refl) x.how;
-      log = part (λ (w : Workspace). w.lists.log) (λ w. refl) x.how;
+      parent_is = told_still n (rebased emptied parent) ws m new (λ (w : Workspace). w.parent) (λ w. refl) x;
+      savepoints = told_still n (rebased emptied parent) ws m new (λ (w : Workspace). w.savepoints) (λ w. refl) x;
+      place = told_still n (rebased emptied parent) ws m new (λ (w : Workspace). w.next_place) (λ w. refl) x;
+      log = told_still n (rebased emptied parent) ws m new (λ (w : Workspace). w.lists.log) (λ w. refl) x;
       how = x.how;
     }
-      where
-        part : {A : Type 0} (f : Workspace → A) → ((w : Workspace) → f (rebased emptied parent w) ≡ f w) → ((m ≡ n) × (new ≡ rebased emptied parent x.old)) ⊎ ((m ≢ n) × (new ≡ x.old)) → f new ≡ f x.old
-        part f same (inl h) = ap f h.1 ∙ same x.old
-        part f same (inr h) = ap f h.1
 
 -- the record of a workspace of after, by what it was before
 pub record WasSpace (p : Parts) (n version : ℕ) (m : ℕ) (new : Space) : Type 0 where

@@ -1,5 +1,5 @@
 -- The records stand for the state in which cells of a workspace were settled: all is as it was but for its marks.
-use Rattle.std.proofs.Common.{◌≡◌, ◌≢◌, ℕ, ◌+◌, ◌-◌, ◌==◌, max, Bool, true, false, cond, if◌then◌else◌, List, map, length, Option, Some, None, is_some, refl, sym, ap, subst, ◌∙◌, ◌⊎◌, inl, inr, ⊎_elim, arith}
+use Rattle.std.proofs.Common.{◌≡◌, ◌≢◌, ℕ, ◌+◌, ◌-◌, ◌==◌, max, Bool, true, false, if◌then◌else◌, List, map, length, Some, is_some, refl, sym, ap, subst, ◌∙◌, ◌⊎◌, inl, inr, ⊎_elim, arith}
 use Rattle.std.proofs.lemmas.Bool.{ne_eqb, and_left, and_right}
 use Rattle.std.proofs.lemmas.List.Elements.{All-append}
 use Rattle.std.proofs.lemmas.Option.{same_Some}
@@ -12,15 +12,14 @@ use Rattle.wm_state.specs.Editing.{settled_by, with_marks}
 use Rattle.wm_state.specs.State.{content, log_of, savepoints_of, with_space, workspace_of, Durable, Workspace}
 use Rattle.wm_state.specs.Standing.{Covers, CountersStand, FieldsStand, IsRealMark, MarksStand, NamedStand, Newest, Own, Owns, OwnsStand, SpaceFields, SpacesStand, Stands, TouchesTell, by_number, fields_in, fields_of, have_ends, latest, marked_at, seen, seen_above, settled_from}
 use Rattle.wm_state.specs.declared.edit.NewMark.{NewMark}
-use Rattle.wm_state.proofs.Changing.{workspace_of-changed}
-use Rattle.wm_state.proofs.Frames.{KeepRows, OnceStand-changed, SavepointsStand-same, fields_stand, savepoints_of-found, savepoints_of-none}
+use Rattle.wm_state.proofs.Changing.{WasChanged, told_still, was_changed}
+use Rattle.wm_state.proofs.Frames.{KeepRows, OnceStand-changed, SavepointsStand-same, fields_stand, savepoints_of-changed}
 use Rattle.wm_state.proofs.Keeping.{KeepRows-same}
 use Rattle.wm_state.proofs.Logging.{HistsStand-frame, log_of-changed}
 use Rattle.wm_state.proofs.Marking.{AreMarked, MarksStand-kept, SayMarked, marks_in}
 use Rattle.wm_state.proofs.Naming.{Carries, Framed, IsKeptOwn, IsMarked, IsNewest, IsNewestOwn, Named-as, NamedStand-kept, Owned-as, OwnsStand-kept, Still, WasNamed, carries-same, named_framed, owns_framed, past_framed, stays-changed}
 use Rattle.wm_state.proofs.Ready.{KeepReady, KeepReady-same}
 use Rattle.wm_state.proofs.Staying.{AreReal, AreReal-same, EntriesStand-kept, LaterStand-same, RowsStand-alike, SameTurns, TouchesStand-kept, TurnsStand-alike, WasTold, WasTouched, entries_real, part-changed, turns_in}
-use Rattle.wm_forked.proofs.Saving.{WasChanged, was_changed}
 use Rattle.wm_settled.specs.Settling.{SettledIn, said}
 use Rattle.wm_settled.proofs.Saying.{settled-append, settled-made}
 
@@ -33,19 +32,13 @@ module _ (p q : Parts) (s t : Durable) (n : ℕ) (ms : List NewMark) (g : Settle
 
   -- what is told of it but for its marks is what was told
   part : {A : Type 0} (m : ℕ) (new : Workspace) (f : Workspace → A) → ((w : Workspace) → f (with_marks ms w) ≡ f w) → (y : WasChanged n (with_marks ms) s.spaces m new) → f new ≡ f y.old
-  part m new f same y = ⊎_elim (λ (h : (m ≡ n) × (new ≡ with_marks ms y.old)). ap f h.1 ∙ same y.old) (λ (h : (m ≢ n) × (new ≡ y.old)). ap f h.1) y.how
+  part m new f same y = told_still n (with_marks ms) s.spaces m new f same y
 
   fields_same : (m : ℕ) → option_map fields_in (workspace_of t.spaces m) ≡ option_map fields_in (workspace_of s.spaces m)
   fields_same = part-changed fields_in n (with_marks ms) (λ w. refl) (λ w. refl) s.spaces t.spaces spaces
 
   points_same : (m : ℕ) → savepoints_of t.spaces m ≡ savepoints_of s.spaces m
-  points_same m = by_test (m == n) (workspace_of s.spaces m) refl (ap (λ us. workspace_of us m) spaces ∙ workspace_of-changed n (with_marks ms) (λ w. refl) s.spaces m)
-    where
-      by_test : (b : Bool) (o : Option Workspace) → workspace_of s.spaces m ≡ o → workspace_of t.spaces m ≡ cond b (option_map (with_marks ms) o) o → savepoints_of t.spaces m ≡ savepoints_of s.spaces m
-      by_test true None found after = savepoints_of-none t.spaces m after ∙ sym (savepoints_of-none s.spaces m found)
-      by_test false None found after = savepoints_of-none t.spaces m after ∙ sym (savepoints_of-none s.spaces m found)
-      by_test true (Some w) found after = savepoints_of-found t.spaces m (with_marks ms w) after ∙ sym (savepoints_of-found s.spaces m w found)
-      by_test false (Some w) found after = savepoints_of-found t.spaces m w after ∙ sym (savepoints_of-found s.spaces m w found)
+  points_same m = ap (λ us. savepoints_of us m) spaces ∙ savepoints_of-changed n (with_marks ms) (λ w. refl) (λ w. refl) s.spaces m
 
   logs : (m : ℕ) → log_of t.spaces m ≡ log_of s.spaces m
   logs m = ap (λ us. log_of us m) spaces ∙ log_of-changed n (with_marks ms) (λ w. refl) (λ w. refl) s.spaces m

@@ -1,8 +1,10 @@
 -- A workspace that was changed, among the others.
-use Rattle.std.proofs.Common.{◌≡◌, ◌≢◌, ℕ, suc, Bool, true, false, not, ◌&&◌, ◌||◌, cond, List, [], ◌∷◌, length, Option, None, refl, sym, ap, ◌∙◌, ◌==◌, ◌⊎◌, inl, inr}
+use Rattle.std.proofs.Common.{◌≡◌, ◌≢◌, ℕ, suc, Bool, true, false, not, ◌&&◌, ◌||◌, cond, List, [], ◌∷◌, length, Option, Some, None, refl, sym, ap, ◌∙◌, ◌==◌, ◌⊎◌, inl, inr, ⊎_elim}
 use Rattle.std.proofs.lemmas.Bool.{cases_eq, eq-eqb, ne_eqb}
+use Rattle.std.proofs.lemmas.Option.{same_Some}
 use Rattle.std.specs.List.{list_any}
 use Rattle.std.specs.Option.{option_map}
+use Rattle.wm_base.proofs.Plain.{none_some}
 use Rattle.wm_graph.specs.Rules.{differ}
 use Rattle.wm_state.specs.State.{Workspace, workspace_of, with_space}
 
@@ -33,6 +35,32 @@ workspace_of-changed n act same (w ∷ ws) m = by_number (cases_eq w.number n) (
     by_number (inr apart) (inl that) (inr away) rest = rw (ne_eqb _ _ apart, ne_eqb _ _ away) rest
     by_number (inr apart) (inr other) (inl found) rest = rw (ne_eqb _ _ apart, ne_eqb _ _ other, eq-eqb _ _ found) refl
     by_number (inr apart) (inr other) (inr away) rest = rw (ne_eqb _ _ apart, ne_eqb _ _ away) rest
+
+-- a workspace of after is one of before, changed where it is the one
+pub record WasChanged (n : ℕ) (act : Workspace → Workspace) (ws : List Workspace) (m : ℕ) (new : Workspace) : Type 0 where
+  pub old : Workspace
+  pub is : workspace_of ws m ≡ Some old
+  pub how : ((m ≡ n) × (new ≡ act old)) ⊎ ((m ≢ n) × (new ≡ old))
+
+pub was_changed : (n : ℕ) (act : Workspace → Workspace) → ((w : Workspace) → (act w).number ≡ w.number) → (ws : List Workspace) (m : ℕ) (new : Workspace)
+    → workspace_of (with_space n act ws) m ≡ Some new → WasChanged n act ws m new
+was_changed n act same ws m new is = by_number (cases_eq m n) (workspace_of ws m) refl
+  where
+    here_is : m ≡ n → workspace_of (with_space n act ws) m ≡ option_map act (workspace_of ws m)
+    here_is here = workspace_of-changed n act same ws m ∙ ap (λ b. cond b (option_map act (workspace_of ws m)) (workspace_of ws m)) (eq-eqb _ _ here)
+
+    away_is : m ≢ n → workspace_of (with_space n act ws) m ≡ workspace_of ws m
+    away_is away = workspace_of-changed n act same ws m ∙ ap (λ b. cond b (option_map act (workspace_of ws m)) (workspace_of ws m)) (ne_eqb _ _ away)
+
+    by_number : (m ≡ n) ⊎ (m ≢ n) → (o : Option Workspace) → workspace_of ws m ≡ o → WasChanged n act ws m new
+    by_number (inl here) None found = absurd (none_some (workspace_of (with_space n act ws) m) new (here_is here ∙ ap (option_map act) found) is)
+    by_number (inl here) (Some w) found = record { old = w; is = found; how = inl (here, same_Some new (act w) (sym is ∙ here_is here ∙ ap (option_map act) found)) }
+    by_number (inr away) None found = absurd (none_some (workspace_of (with_space n act ws) m) new (away_is away ∙ found) is)
+    by_number (inr away) (Some w) found = record { old = w; is = found; how = inr (away, same_Some new w (sym is ∙ away_is away ∙ found)) }
+
+-- what is told of it but for its change is what was told
+pub told_still : {A : Type 0} (n : ℕ) (act : Workspace → Workspace) (ws : List Workspace) (m : ℕ) (new : Workspace) (f : Workspace → A) → ((w : Workspace) → f (act w) ≡ f w) → (y : WasChanged n act ws m new) → f new ≡ f y.old
+told_still n act ws m new f same y = ⊎_elim (λ (h : (m ≡ n) × (new ≡ act y.old)). ap f h.1 ∙ same y.old) (λ (h : (m ≢ n) × (new ≡ y.old)). ap f h.1) y.how
 
 -- a change that keeps the number keeps how many there are
 pub length-changed : (n : ℕ) (act : Workspace → Workspace) (ws : List Workspace) → length (with_space n act ws) ≡ length ws

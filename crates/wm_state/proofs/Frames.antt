@@ -1,7 +1,7 @@
 -- What is kept of workspaces, savepoints and rows where each thing that is looked up is as it was before: OnceStand-frame and
 -- SavepointsStand-frame, with the cases in which one workspace was changed, or none. The module Naming has the law on versions that are named,
 -- Staying those on turns, touches, logs and entries, and Keeping those on the rules.
-use Rattle.std.proofs.Common.{◌≡◌, ℕ, ◌==◌, List, [], map, length, Option, Some, None, refl, sym, ap, ◌∙◌, ◌⊎◌, inl, ⊎_elim}
+use Rattle.std.proofs.Common.{◌≡◌, ℕ, ◌==◌, Bool, true, false, cond, List, [], map, length, Option, Some, None, refl, sym, ap, ◌∙◌, ◌⊎◌, inl, ⊎_elim}
 use Rattle.std.specs.List.{filter}
 use Rattle.std.specs.Option.{option_map}
 use Rattle.wm_base.specs.declared.row.Row.{Row}
@@ -12,7 +12,7 @@ use Rattle.wm_spec.specs.declared.record.row.RowRecord.{RowRecord}
 use Rattle.wm_spec.specs.declared.record.savepoint.Savepoint.{Savepoint as Record}
 use Rattle.wm_state.specs.State.{Durable, Workspace, workspace_of, with_space, savepoints_of}
 use Rattle.wm_state.specs.Standing.{FieldsStand, Stands, saved_fields, fields_saved, by_making, saved_in, OnceStand, SavepointsStand, HasRows}
-use Rattle.wm_state.proofs.Changing.{length-changed, differ-changed}
+use Rattle.wm_state.proofs.Changing.{length-changed, differ-changed, workspace_of-changed}
 
 -- ---- counters, tables, workspaces and savepoints
 
@@ -53,6 +53,17 @@ savepoints_of-found ws n w found = rw found refl
 
 pub savepoints_of-none : (ws : List Workspace) (n : ℕ) → workspace_of ws n ≡ None → savepoints_of ws n ≡ []
 savepoints_of-none ws n none = rw none refl
+
+-- where a workspace was changed, but for its savepoints
+pub savepoints_of-changed : (n : ℕ) (act : Workspace → Workspace) → ((w : Workspace) → (act w).number ≡ w.number) → ((w : Workspace) → (act w).savepoints ≡ w.savepoints) → (ws : List Workspace) (m : ℕ)
+    → savepoints_of (with_space n act ws) m ≡ savepoints_of ws m
+savepoints_of-changed n act same kept ws m = by_test (m == n) (workspace_of ws m) refl (workspace_of-changed n act same ws m)
+  where
+    by_test : (b : Bool) (o : Option Workspace) → workspace_of ws m ≡ o → workspace_of (with_space n act ws) m ≡ cond b (option_map act o) o → savepoints_of (with_space n act ws) m ≡ savepoints_of ws m
+    by_test true None found after = savepoints_of-none (with_space n act ws) m after ∙ sym (savepoints_of-none ws m found)
+    by_test false None found after = savepoints_of-none (with_space n act ws) m after ∙ sym (savepoints_of-none ws m found)
+    by_test true (Some w) found after = savepoints_of-found (with_space n act ws) m (act w) after ∙ kept w ∙ sym (savepoints_of-found ws m w found)
+    by_test false (Some w) found after = savepoints_of-found (with_space n act ws) m w after ∙ sym (savepoints_of-found ws m w found)
 
 -- the savepoints of a workspace and their records are those of before
 pub record Points (p q : Parts) (s t : Durable) (n : ℕ) : Type 0 where

@@ -52,3 +52,4 @@ pub mod DraftedMore
 pub mod RowsStay
 pub mod Drafted
 pub mod FieldsThere
+pub mod InOrder

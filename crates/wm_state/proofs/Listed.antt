@@ -51,7 +51,8 @@ unread p version table key t none = ap (option_and_then standing) (unseen p.piec
 
 -- ---- what a version holds is what a list of entries holds
 
-stamp_same : (o : Option Told) → option_and_then standing (option_map held_of o) ≡ option_and_then standing_stamp o
+-- the stamp of a row that stands, as pieces tell it and as a list does
+pub stamp_same : (o : Option Told) → option_and_then standing (option_map held_of o) ≡ option_and_then standing_stamp o
 stamp_same None = refl
 stamp_same (Some t) = by_row t.row
   where

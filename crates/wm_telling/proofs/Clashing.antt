@@ -1,8 +1,7 @@
 -- The first stretch on which a workspace and its parent are in conflict, by their records, is the first of their conflicts.
-use Rattle.std.proofs.Common.{◌≡◌, ℕ, ◌&&◌, nat_lt, Bool, not, List, slice_get, Option, Some, None, is_some, is_none, refl, sym, ap, ◌∙◌}
+use Rattle.std.proofs.Common.{◌≡◌, ℕ, ◌&&◌, nat_lt, Bool, List, slice_get, Option, Some, None, is_some, refl, sym, ap, ◌∙◌}
 use Rattle.std.specs.Bool.{then_some}
 use Rattle.std.specs.Option.{option_and_then, option_map}
-use Rattle.wm_base.specs.declared.row.Row.{Row}
 use Rattle.wm_base.specs.declared.value.Value.{Value}
 use Rattle.wm_graph.specs.Parts.{Parts}
 use Rattle.wm_net.specs.Conflicts.{Stamps, all_sides, conflict_at, conflicts, grouped, in_conflict, same_stamps, stamps}
@@ -14,26 +13,20 @@ use Rattle.wm_net.proofs.Firsting.{listing_first, listing_none}
 use Rattle.wm_period.specs.Pieces.{Held}
 use Rattle.wm_spec.specs.Lists.{Cell, Told, reach, standing_stamp, told, touched}
 use Rattle.wm_spec.specs.declared.record.space.Space.{Space}
+use Rattle.wm_state.proofs.Listed.{stamp_same}
+use Rattle.wm_state.specs.Listing.{standing}
 use Rattle.wm_state.specs.Standing.{Newest, held_of, latest, seen}
 use Rattle.wm_state.specs.State.{Durable, Workspace, content}
 use Rattle.wm_telling.specs.Sides.{sides}
-use Rattle.wm_telling.specs.Telling.{IsFirstClash, clash_held, is_pending, is_unsettled, own_held, stamps_of, standing}
+use Rattle.wm_telling.specs.Telling.{IsFirstClash, clash_held, is_pending, is_unsettled, own_held, stamps_of}
 use Rattle.wm_telling.proofs.Beside.{Beside, child_recorded, own_is_held, parent_holds, pending_reach, unsettled_reach}
 
 some_mapped : (o : Option Told) → is_some (option_map held_of o) ≡ is_some o
 some_mapped None = refl
 some_mapped (Some t) = refl
 
-standing_same : (o : Option Told) → option_and_then standing (option_map held_of o) ≡ option_and_then standing_stamp o
-standing_same None = refl
-standing_same (Some t) = by_row t.row
-  where
-    by_row : (r : Option Row) → then_some (not (is_none r)) t.stamp ≡ then_some (is_some r) t.stamp
-    by_row None = refl
-    by_row (Some row) = refl
-
 standing_told : (o : Option Held) (t : Option Told) → o ≡ option_map held_of t → option_and_then standing o ≡ option_and_then standing_stamp t
-standing_told o t e = ap (option_and_then standing) e ∙ standing_same t
+standing_told o t e = ap (option_and_then standing) e ∙ stamp_same t
 
 -- a first stretch is one of another function that gives the same
 first_alike : {A : Type 0} (f h : Cell → Option A) (g : Group) (s : Stretch A) → ((c : Cell) → f c ≡ h c) → IsFirstOf f g s → IsFirstOf h g s

@@ -17,6 +17,7 @@ use Rattle.wm_spec.specs.declared.record.row.RowRecord.{RowRecord}
 use Rattle.wm_spec.specs.declared.record.space.Space.{Space}
 use Rattle.wm_state.specs.Copied.{AreCopied, KeyPieces}
 use Rattle.wm_state.specs.Editing.{row_value}
+use Rattle.wm_state.specs.Listing.{standing}
 use Rattle.wm_state.specs.Standing.{latest, owned, reached, seen}
 
 -- ---- what pieces say
@@ -28,10 +29,6 @@ told_by p h = record {
   kind = h.kind;
   row = if h.gone then None else option_map (λ (r : RowRecord). row_value r.values) (row_of p.rows h.stamp.number);
 }
-
--- the stamp of the row that stands where a piece does, and none where it is gone
-abbrev pub standing : Held → Option ℕ
-standing h = then_some (not h.gone) h.stamp.number
 
 abbrev pub same_kind : Kind → Kind → Bool
 same_kind Insert Insert = true

@@ -3,7 +3,7 @@
 use Rattle.std.proofs.Common.{◌≡◌, ◌≢◌, ℕ, ◌≤◌, ◌==◌, nat_lt, nat_le, true, not, ◌&&◌, ◌||◌, cond, List, map, length, Some, refl, sym, ap, ◌∙◌, ◌⊎◌, inl, inr, arith}
 use Rattle.std.proofs.lemmas.Bool.{cases_eq, eq-eqb, eqb-true, ne_eqb, and_parts}
 use Rattle.std.proofs.lemmas.List.{length-take-le}
-use Rattle.std.proofs.lemmas.Option.{same_Some, none-some}
+use Rattle.std.proofs.lemmas.Option.{same_Some}
 use Rattle.std.specs.List.{filter, find}
 use Rattle.std.specs.Option.{option_map}
 use Rattle.wm_graph.specs.Parts.{Parts, space_of}
@@ -13,7 +13,7 @@ use Rattle.wm_spec.specs.declared.record.space.Space.{Space}
 use Rattle.wm_state.specs.State.{Durable, Workspace, Savepoint, workspace_of, with_space, savepoint_made, savepoints_of}
 use Rattle.wm_state.specs.Standing.{SpaceFields, SavepointFields, fields_of, fields_in, saved_fields, fields_saved, by_making, by_number, saved_in, saved_as, CountersStand, SpacesStand, SavepointsStand, FieldsStand}
 use Rattle.wm_state.proofs.Apart.{ruled}
-use Rattle.wm_state.proofs.Changing.{workspace_of-changed}
+use Rattle.wm_state.proofs.Changing.{WasChanged, told_still, was_changed, workspace_of-changed}
 use Rattle.wm_state.proofs.Climbing.{recorded_of}
 use Rattle.wm_state.proofs.Frames.{OnceStand-changed, savepoints_of-found}
 use Rattle.wm_state.proofs.Making.{differ-making, same_making}
@@ -21,7 +21,6 @@ use Rattle.wm_state.proofs.Mapped.{differ-alike}
 use Rattle.wm_state.proofs.Named.{ruled_savepoints, saved_space, saved_there}
 use Rattle.wm_state.proofs.SavedAs.{made_some_there}
 use Rattle.wm_state.proofs.Tests.{differ_filter}
-use Rattle.wm_forked.proofs.Saving.{WasChanged, was_changed}
 use Rattle.wm_undone.specs.Restoring.{GoesBack, RestoredTo, restored, restored_to, stays_at, stays_saved}
 use Rattle.wm_undone.proofs.RestoringLists.{filter-alike, filter-left, filter-under, found-left, making-filter}
 
@@ -42,15 +41,11 @@ was_restored n k ws m new is = by_case (was_changed n (restored k) (λ w. refl) 
     by_case x = record {
       old = x.old;
       is = x.is;
-      parent = part (λ (w : Workspace). w.parent) (λ w. refl) x.how;
-      rebases = part (λ (w : Workspace). w.rebases) (λ w. refl) x.how;
-      turns = part (λ (w : Workspace). w.turns) (λ w. refl) x.how;
+      parent = told_still n (restored k) ws m new (λ (w : Workspace). w.parent) (λ w. refl) x;
+      rebases = told_still n (restored k) ws m new (λ (w : Workspace). w.rebases) (λ w. refl) x;
+      turns = told_still n (restored k) ws m new (λ (w : Workspace). w.turns) (λ w. refl) x;
       how = x.how;
     }
-      where
-        part : {A : Type 0} (f : Workspace → A) → ((w : Workspace) → f (restored k w) ≡ f w) → ((m ≡ n) × (new ≡ restored k x.old)) ⊎ ((m ≢ n) × (new ≡ x.old)) → f new ≡ f x.old
-        part f same (inl h) = ap f h.1 ∙ same x.old
-        part f same (inr h) = ap f h.1
 
 -- a savepoint of after was one before, and is one that stays
 pub record WasMade (n : ℕ) (k : Savepoint) (ws : List Workspace) (m making : ℕ) (new : Workspace) (j : Savepoint) : Type 0 where

@@ -4,10 +4,11 @@ pub mod Leaves
 pub mod Forks
 pub mod Ids
 pub mod Behind
+pub mod Longer
 pub mod Wrote
 pub mod Logged
 pub mod WritingNamed
-pub mod WritingLogs
+pub mod LongerLogs
 pub mod WritingAll
 pub mod KeepWritten
 pub mod Entered

@@ -13,13 +13,15 @@ use Rattle.wm_spec.proofs.Lists.{told-append}
 use Rattle.wm_state.specs.State.{Durable, Workspace, content, workspace_of, with_entries}
 use Rattle.wm_state.specs.Standing.{held_of, newest_first, latest, seen_at, seen_above, own_at, first_in, is_above, SpacesStand, HasRows, Newest, Tells, NamedStand, Owns, Own, Covers, OwnsStand}
 use Rattle.wm_state.specs.Writes.{WroteAll}
+use Rattle.wm_state.proofs.Changing.{WasChanged}
 use Rattle.wm_state.proofs.DrawingEnds.{more-front, more-behind}
 use Rattle.wm_state.proofs.Ending.{all_end, all_end-drawn, more-ends}
 use Rattle.wm_state.proofs.FirstIn.{first-apart}
 use Rattle.wm_state.proofs.Frames.{row-kept}
-use Rattle.wm_state.proofs.Naming.{Carries, Covers-as, Framed, IsKeptOwn, IsMarked, IsNewest, IsNewestOwn, Named-as, NamedStand-kept, Owned-as, OwnsStand-kept, Still, StillNames, Tells-as, WasNamed, climbs_kept, named_framed, owns_framed, past_framed, stays-changed}
+use Rattle.wm_state.proofs.Naming.{Carries, Covers-as, Framed, IsKeptOwn, IsMarked, IsNewest, IsNewestOwn, Named-as, NamedStand-kept, Owned-as, OwnsStand-kept, Tells-as, WasNamed, climbs_kept, named_framed, owns_framed, past_framed, stays-changed}
+use Rattle.wm_written.proofs.Longer.{before, framed_longer}
 use Rattle.wm_written.proofs.Nearest.{seen-here, own-here}
-use Rattle.wm_written.proofs.Wrote.{Had, Was, above_away, appended_all, ends_away, had, laid-away, laid-here, newest_away, sees_away, told-with_all, versions_wrote, was}
+use Rattle.wm_written.proofs.Wrote.{above_away, appended_all, ends_away, laid-away, laid-here, longer_wrote, newest_away, sees_away, told-with_all, versions_wrote}
 
 pub map-or : (t o : Option Told) → option_or (option_map held_of t) (option_map held_of o) ≡ option_map held_of (option_or t o)
 map-or None o = refl
@@ -30,43 +32,14 @@ some-or None h o same = same
 some-or (Some t) h o same = refl
 
 module _ (p q : Parts) (s t : Durable) (n : ℕ) (es : List Entry) (w : WroteAll p q n es) (spaces : t.spaces ≡ appended_all n es s.spaces) where
-  before : (m : ℕ) (new : Workspace) → workspace_of t.spaces m ≡ Some new → Was n es s.spaces m new
-  before m new is = was n es s.spaces m new (ap (λ ws. workspace_of ws m) (sym spaces) ∙ is)
+  was : (m : ℕ) (new : Workspace) → workspace_of t.spaces m ≡ Some new → WasChanged n (with_entries es) s.spaces m new
+  was m new is = before p q s t n es (λ own. own ++ es) (longer_wrote p q n es w) spaces m new is
 
   newest_same : (m : ℕ) → latest q m ≡ latest p m
   newest_same m = ap (λ (z : Parts). latest z m) w.rest
 
-  -- no savepoint and no workspace is new
   framed_wrote : Framed p q s t
-  framed_wrote = record { savepoints = ap (λ (z : Parts). z.savepoints) w.rest; still = λ m new is. still m new (before m new is); names = λ m r recorded. names m r (had p q n es w m r recorded) }
-    where
-      still : (m : ℕ) (new : Workspace) → Was n es s.spaces m new → Still s m new
-      still m new x = ⊎_elim
-          (λ h. record {
-            old = x.old;
-            is = x.is;
-            parent = ap (λ (w : Workspace). w.parent) h.1;
-            savepoints = ap (λ (w : Workspace). w.savepoints) h.1;
-            rebases = ap (λ (w : Workspace). w.rebases) h.1;
-            turns = ap (λ (w : Workspace). w.turns) h.1;
-            base = ap (λ (w : Workspace). w.lists.base) h.1;
-          })
-          (λ h. record {
-            old = x.old;
-            is = x.is;
-            parent = ap (λ (w : Workspace). w.parent) h.1;
-            savepoints = ap (λ (w : Workspace). w.savepoints) h.1;
-            rebases = ap (λ (w : Workspace). w.rebases) h.1;
-            turns = ap (λ (w : Workspace). w.turns) h.1;
-            base = ap (λ (w : Workspace). w.lists.base) h.1;
-          })
-          x.how
-
-      names : (m : ℕ) (new : Space) → Had p n es m new → StillNames p m new
-      names m new y = ⊎_elim
-          (λ h. record { old = y.old; is = y.is; birth = ap (λ (k : Space). k.birth_version) h.1; base = ap (λ (k : Space). k.base_version) h.1 })
-          (λ h. record { old = y.old; is = y.is; birth = ap (λ (k : Space). k.birth_version) h.1; base = ap (λ (k : Space). k.base_version) h.1 })
-          y.how
+  framed_wrote = framed_longer p q s t n es (λ own. own ++ es) (longer_wrote p q n es w) spaces
 
   -- paths lead up as they did: what stands above a version is not the one that is written
   carries_wrote : Carries p q s.spaces t.spaces
@@ -107,12 +80,12 @@ module _ (p q : Parts) (s t : Durable) (n : ℕ) (es : List Entry) (w : WroteAll
       (λ v m r fs x. ⊎_elim (λ (k : IsMarked p s v m r fs). inl (record { named = k.named; sees = sees_away p q n es w v (k.free (latest p n) w.free) })) (newest v m r fs) (named_framed p q s t framed_wrote v m r fs x))
     where
       newest : (v m r : ℕ) (fs : List Entry) → IsNewest q t v m r fs → WasNamed p q s v m r fs ⊎ Tells q t.spaces v m r fs
-      newest v m r fs k = by_how (before m k.now k.is)
+      newest v m r fs k = by_how (was m k.now k.is)
         where
           over : v ≡ latest p m
           over = k.version ∙ newest_same m
 
-          by_how : Was n es s.spaces m k.now → WasNamed p q s v m r fs ⊎ Tells q t.spaces v m r fs
+          by_how : WasChanged n (with_entries es) s.spaces m k.now → WasNamed p q s v m r fs ⊎ Tells q t.spaces v m r fs
           by_how y = ⊎_elim
               (λ h. inr (Tells-as q t.spaces _ _ _ _ _ _ _ _ (over ∙ ap (latest p) h.0) h.0 (k.rebases ∙ ap (λ (o : Workspace). o.rebases) h.1) (k.content ∙ ap content h.1)
               (told_here rules there named y.old (ap (workspace_of s.spaces) (sym h.0) ∙ y.is))))
@@ -148,12 +121,12 @@ module _ (p q : Parts) (s t : Durable) (n : ℕ) (es : List Entry) (w : WroteAll
       (past_framed p q s t framed_wrote owns)
     where
       newest : (base v : ℕ) (fs : List Entry) → IsNewestOwn p q t base v fs → (Owns p s base v fs × (Covers p base v fs → Covers q base v fs)) ⊎ Covers q base v fs
-      newest base v fs k = by_how (before k.number k.now k.is)
+      newest base v fs k = by_how (was k.number k.now k.is)
         where
           over : v ≡ latest p k.number
           over = k.over ∙ newest_same k.number
 
-          by_how : Was n es s.spaces k.number k.now → (Owns p s base v fs × (Covers p base v fs → Covers q base v fs)) ⊎ Covers q base v fs
+          by_how : WasChanged n (with_entries es) s.spaces k.number k.now → (Owns p s base v fs × (Covers p base v fs → Covers q base v fs)) ⊎ Covers q base v fs
           by_how y = ⊎_elim
               (λ h.
               let is : workspace_of s.spaces n ≡ Some y.old = ap (workspace_of s.spaces) (sym h.0) ∙ y.is in
