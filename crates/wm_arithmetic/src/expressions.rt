@@ -1,14 +1,14 @@
 ghost use Rattle.std.specs.Prelude.{◌≡◌, List, IfOk, IfErr};
-ghost use Rattle.wm_base.specs.Trees.{Mul};
-ghost use Rattle.wm_base.specs.Views.{expr_view};
+ghost use Rattle.wm_syntax.specs.Trees.{Mul};
+ghost use Rattle.wm_syntax.specs.Views.{expr_view};
 ghost use Rattle.wm_grammar.specs.Expressions.{signed};
 ghost use Rattle.wm_grammar.specs.ExpressionReaders.{times_at, term_at, signed_term_at, expr_of_at, factor_at, expr_at};
 ghost use Rattle.wm_terms.specs.Telling.{Told};
 ghost use Rattle.wm_terms.specs.declared.error.ParseError.TheVariants.{Memory};
 
 use std::alloc::Global;
-use wm_base::tree::expr::Expr;
 use wm_grammar::Sort;
+use wm_syntax::expr::Expr;
 use wm_terms::cursor::Cursor;
 use wm_terms::depth::DEPTH;
 use wm_terms::error::ParseError;

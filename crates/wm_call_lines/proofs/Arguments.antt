@@ -1,7 +1,7 @@
 -- Arguments with commas, read by a loop.
 use Rattle.std.proofs.Common.{◌≡◌, ℕ, ◌<◌, Bool, true, List, [], ◌∷◌, ◌++◌, length, refl, sym, ap, subst, ◌∙◌, Option, Result, Ok}
-use Rattle.wm_base.specs.declared.tree.statement.Arg.{Arg}
-use Rattle.wm_base.specs.Trees.{Cond}
+use Rattle.wm_syntax.specs.declared.statement.Arg.{Arg}
+use Rattle.wm_syntax.specs.Trees.{Cond}
 use Rattle.wm_grammar.specs.declared.procedure.Procedure.{Procedure}
 use Rattle.wm_grammar.specs.Symbols.{Symbol, next_in}
 use Rattle.wm_grammar.specs.Sorts as sorts

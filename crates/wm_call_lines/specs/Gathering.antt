@@ -1,8 +1,8 @@
 -- What is known of arguments that are gathered.
 use Rattle.std.specs.Prelude.{◌≡◌, ℕ, List, [], ◌∷◌, ◌++◌, Option, Result, Ok, Err}
-use Rattle.wm_base.specs.declared.tree.statement.Arg.{Arg}
-use Rattle.wm_base.specs.Trees.{Cond}
-use Rattle.wm_base.specs.Views.{filter_view}
+use Rattle.wm_syntax.specs.declared.statement.Arg.{Arg}
+use Rattle.wm_syntax.specs.Trees.{Cond}
+use Rattle.wm_syntax.specs.Views.{filter_view}
 use Rattle.wm_grammar.specs.declared.procedure.Procedure.{Procedure}
 use Rattle.wm_grammar.specs.Symbols.{Symbol}
 use Rattle.wm_grammar.specs.Reading.{Reader, gives_at, ◌>>=◌}

@@ -1,5 +1,5 @@
 ghost use Rattle.std.specs.Prelude.{◌≡◌, ◌≢◌, ◌<◌, ◌^◌, List, [], None, length};
-ghost use Rattle.wm_base.specs.Views.{cond_view, filter_view, statement_view};
+ghost use Rattle.wm_syntax.specs.Views.{cond_view, filter_view, statement_view};
 ghost use Rattle.wm_grammar.specs.Calls.{first_some};
 ghost use Rattle.wm_grammar.specs.Sorts.{code_of};
 ghost use Rattle.wm_grammar.specs.Scanned.{symbols_of};
@@ -12,12 +12,12 @@ ghost use Rattle.wm_call_lines.specs.Gathering.{gathered_view, first_at, Gathers
 use crate::parameters::{next_place, open_parameter};
 use std::alloc::Global;
 use std::mem::replace;
-use wm_base::tree::cond::Cond;
-use wm_base::tree::constant::Const;
-use wm_base::tree::statement::{Arg, ArgValue, Args, Statement};
 use wm_base::{Instant, Name, Text};
 use wm_conditions::condition;
 use wm_grammar::{Parameter, Procedure, Sort, is_same, procedure_of};
+use wm_syntax::cond::Cond;
+use wm_syntax::constant::Const;
+use wm_syntax::statement::{Arg, ArgValue, Args, Statement};
 use wm_terms::cursor::Cursor;
 use wm_terms::error::ParseError;
 use wm_terms::meaning::unquoted_bytes;

@@ -1,10 +1,10 @@
 ghost use Rattle.std.specs.Prelude.{◌≡◌, List};
-ghost use Rattle.wm_base.specs.declared.tree.statement.Arg.{Arg as OneArg};
+ghost use Rattle.wm_syntax.specs.declared.statement.Arg.{Arg as OneArg};
 ghost use Rattle.wm_grammar.specs.Calls.{parameters_of, at_place, is_text, is_some_same, is_description, placed_parameter, parameter_for, is_given, closes, is_closed, next_place, is_among, open_parameter};
 
-use wm_base::tree::constant::Const;
-use wm_base::tree::statement::{Arg, ArgValue};
 use wm_grammar::{Parameter, Procedure, is_same, parameter_of};
+use wm_syntax::constant::Const;
+use wm_syntax::statement::{Arg, ArgValue};
 
 /// The parameter of a procedure at a place.
 fn parameter_at(procedure: Procedure, place: usize) -> Option<Parameter>

@@ -3,12 +3,12 @@ use Rattle.std.proofs.Common.{◌≡◌, ℕ, Bool, true, false, ◌||◌, List,
 use Rattle.std.specs.Prelude.{nat_lt}
 use Rattle.std.specs.List.{list_any, list_all}
 use Rattle.std.proofs.lemmas.Bool.{or_parts, and_from, not-false, true≢false}
-use Rattle.wm_base.specs.declared.tree.constant.Const.{Const}
-use Rattle.wm_base.specs.declared.tree.constant.Const.TheVariants as consts
-use Rattle.wm_base.specs.declared.tree.operand.Operand.{Operand}
-use Rattle.wm_base.specs.declared.tree.operand.Operand.TheVariants as operands
-use Rattle.wm_base.specs.declared.tree.query.Agg.{Agg}
-use Rattle.wm_base.specs.Trees.{Expr, Of, Neg, Add, Sub, Mul, Cond, Item, Plain, CountAll, Aggregate, Out, Query, Set, Insert, Update}
+use Rattle.wm_syntax.specs.declared.constant.Const.{Const}
+use Rattle.wm_syntax.specs.declared.constant.Const.TheVariants as consts
+use Rattle.wm_syntax.specs.declared.operand.Operand.{Operand}
+use Rattle.wm_syntax.specs.declared.operand.Operand.TheVariants as operands
+use Rattle.wm_syntax.specs.declared.query.Agg.{Agg}
+use Rattle.wm_syntax.specs.Trees.{Expr, Of, Neg, Add, Sub, Mul, Cond, Item, Plain, CountAll, Aggregate, Out, Query, Set, Insert, Update}
 use Rattle.wm_spec.specs.Operands.{end_seconds}
 use Rattle.wm_spec.specs.Expressions.{lasts, has_no_empty_period}
 use Rattle.wm_calls.specs.Empty.{is_empty_const, operand_has_empty, expr_has_empty, filter_has_empty, item_has_empty, out_has_empty, projection_has_empty, src_has_empty, query_has_empty, set_has_empty, has_empty_period}

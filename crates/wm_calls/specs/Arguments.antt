@@ -1,10 +1,10 @@
 -- What a call gives for a parameter.
 use Rattle.std.specs.Prelude.{ℕ, ◌+◌, Bool, false, ◌==◌, if◌then◌else◌, length, List, [], ◌∷◌, Option, Some, None}
-use Rattle.wm_base.specs.declared.tree.constant.Const.{Const}
-use Rattle.wm_base.specs.declared.tree.constant.Const.TheVariants as consts
-use Rattle.wm_base.specs.declared.tree.statement.ArgValue.{ArgValue}
-use Rattle.wm_base.specs.declared.tree.statement.ArgValue.TheVariants as values
-use Rattle.wm_base.specs.declared.tree.statement.Arg.{Arg}
+use Rattle.wm_syntax.specs.declared.constant.Const.{Const}
+use Rattle.wm_syntax.specs.declared.constant.Const.TheVariants as consts
+use Rattle.wm_syntax.specs.declared.statement.ArgValue.{ArgValue}
+use Rattle.wm_syntax.specs.declared.statement.ArgValue.TheVariants as values
+use Rattle.wm_syntax.specs.declared.statement.Arg.{Arg}
 use Rattle.wm_grammar.specs.declared.procedure.Procedure.{Procedure}
 use Rattle.wm_grammar.specs.declared.procedure.Parameter.{Parameter}
 use Rattle.wm_grammar.specs.Calls.{is_some_same}

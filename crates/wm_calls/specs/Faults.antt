@@ -2,8 +2,8 @@
 use Rattle.std.specs.Prelude.{ℕ, ◌+◌, Bool, if◌then◌else◌, length, is_none, List, [], ◌∷◌, Option, Some, None}
 use Rattle.std.specs.Option.{option_or, option_map}
 use Rattle.std.specs.List.{find}
-use Rattle.wm_base.specs.declared.tree.statement.ArgValue.{ArgValue}
-use Rattle.wm_base.specs.declared.tree.statement.Arg.{Arg}
+use Rattle.wm_syntax.specs.declared.statement.ArgValue.{ArgValue}
+use Rattle.wm_syntax.specs.declared.statement.Arg.{Arg}
 use Rattle.wm_grammar.specs.declared.procedure.Procedure.{Procedure}
 use Rattle.wm_grammar.specs.declared.procedure.Parameter.{Parameter}
 use Rattle.wm_grammar.specs.Calls.{is_among, is_some_same}

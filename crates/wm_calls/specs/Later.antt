@@ -1,7 +1,7 @@
 -- The lines that a later stage serves.
 use Rattle.std.specs.Prelude.{ℕ, Bool, true, false, ◌||◌, nat_eq, List, Option, Some, None, codes}
 use Rattle.std.specs.List.{list_any, ends_with}
-use Rattle.wm_base.specs.Trees.{Src, Statement, Select, Call, Line, Connect, Disconnect, At, Run}
+use Rattle.wm_syntax.specs.Trees.{Src, Statement, Select, Call, Line, Connect, Disconnect, At, Run}
 use Rattle.wm_grammar.specs.declared.procedure.Procedure.{Procedure}
 use Rattle.wm_grammar.specs.declared.procedure.Procedure.TheVariants as procedures
 use Rattle.wm_grammar.specs.Calls.{procedure_of}

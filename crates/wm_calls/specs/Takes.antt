@@ -1,10 +1,10 @@
 -- What each parameter takes, and its name.
 use Rattle.std.specs.Prelude.{ℕ, Bool, true, false, not, ◌||◌, List, codes}
 use Rattle.std.specs.Str.{str_eq_ignore_ascii_case}
-use Rattle.wm_base.specs.declared.tree.constant.Const.{Const}
-use Rattle.wm_base.specs.declared.tree.constant.Const.TheVariants as consts
-use Rattle.wm_base.specs.declared.tree.statement.ArgValue.{ArgValue}
-use Rattle.wm_base.specs.declared.tree.statement.ArgValue.TheVariants as values
+use Rattle.wm_syntax.specs.declared.constant.Const.{Const}
+use Rattle.wm_syntax.specs.declared.constant.Const.TheVariants as consts
+use Rattle.wm_syntax.specs.declared.statement.ArgValue.{ArgValue}
+use Rattle.wm_syntax.specs.declared.statement.ArgValue.TheVariants as values
 use Rattle.wm_grammar.specs.declared.procedure.Parameter.{Parameter}
 use Rattle.wm_grammar.specs.declared.procedure.Parameter.TheVariants as parameters
 use Rattle.wm_calls.specs.declared.takes.Takes.{Takes}

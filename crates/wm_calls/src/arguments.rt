@@ -3,10 +3,10 @@ ghost use Rattle.std.specs.Option.{option_copied};
 ghost use Rattle.wm_calls.specs.Arguments.{argument, text_given, moment_given, is_true_given};
 
 use crate::places::{is_that, parameter_at};
-use wm_base::tree::constant::Const;
-use wm_base::tree::statement::{Arg, ArgValue};
 use wm_base::{Instant, Text};
 use wm_grammar::{Parameter, Procedure};
+use wm_syntax::constant::Const;
+use wm_syntax::statement::{Arg, ArgValue};
 
 /// What a call gives for a parameter, by its name or by its place.
 #[tactic(auto, unfolding(crate::specs::Arguments::argument))]

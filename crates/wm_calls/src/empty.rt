@@ -1,15 +1,15 @@
 ghost use Rattle.std.specs.Prelude.{◌≡◌, List};
 ghost use Rattle.std.specs.List.{list_any};
-ghost use Rattle.wm_base.specs.Views.{expr_view, exprs_view, cond_view, filter_view, item_view, projection_view, srcs_view, outs_view, sets_view, query_view, statement_view};
+ghost use Rattle.wm_syntax.specs.Views.{expr_view, exprs_view, cond_view, filter_view, item_view, projection_view, srcs_view, outs_view, sets_view, query_view, statement_view};
 ghost use Rattle.wm_spec.specs.Operands.{end_seconds};
 ghost use Rattle.wm_calls.specs.Empty.{is_empty_span, is_empty_const, is_empty_per, operand_has_empty, expr_has_empty, cond_has_empty, filter_has_empty, item_has_empty, out_has_empty, projection_has_empty, src_has_empty, query_has_empty, set_has_empty, value_has_empty, arg_has_empty, has_empty_period};
 
-use wm_base::tree::cond::Cond;
-use wm_base::tree::constant::{Const, PeriodEnd};
-use wm_base::tree::expr::Expr;
-use wm_base::tree::operand::{Operand, Per};
-use wm_base::tree::query::{Item, Out, Projection, Query, Src};
-use wm_base::tree::statement::{Arg, ArgValue, Set, Statement};
+use wm_syntax::cond::Cond;
+use wm_syntax::constant::{Const, PeriodEnd};
+use wm_syntax::expr::Expr;
+use wm_syntax::operand::{Operand, Per};
+use wm_syntax::query::{Item, Out, Projection, Query, Src};
+use wm_syntax::statement::{Arg, ArgValue, Set, Statement};
 
 /// The seconds of an end. The moment of the line stands in the place of SYSDATE before this is asked.
 fn seconds_of(end: &PeriodEnd) -> u64

@@ -7,8 +7,8 @@ use crate::arguments::argument;
 use crate::fits::fits;
 use crate::places::{is_among, is_diff, is_that, parameter_at, required_of};
 use crate::takes::takes_of;
-use wm_base::tree::statement::{Arg, ArgValue};
 use wm_grammar::{Parameter, Procedure};
+use wm_syntax::statement::{Arg, ArgValue};
 
 /// Whether a parameter takes the value, in a call with so many arguments.
 fn fits_parameter(

@@ -2,9 +2,9 @@ ghost use Rattle.std.specs.Prelude.{◌≡◌};
 ghost use Rattle.wm_calls.specs.Takes.{is_history, is_freeze, is_lock, is_side, fits_text, fits_truth, fits_const, fits};
 
 use crate::takes::Takes;
-use wm_base::tree::constant::Const;
-use wm_base::tree::statement::ArgValue;
 use wm_grammar::is_word;
+use wm_syntax::constant::Const;
+use wm_syntax::statement::ArgValue;
 
 fn is_history(text: &[u8]) -> bool
     ensures { result ≡ is_history text.now }

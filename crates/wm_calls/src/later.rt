@@ -1,13 +1,13 @@
 ghost use Rattle.std.specs.Prelude.{◌≡◌, List};
 ghost use Rattle.std.specs.List.{list_any};
-ghost use Rattle.wm_base.specs.Views.{srcs_view, statement_view, line_view};
+ghost use Rattle.wm_syntax.specs.Views.{srcs_view, statement_view, line_view};
 ghost use Rattle.wm_grammar.specs.Calls.{procedure_of};
 ghost use Rattle.wm_calls.specs.Later.{is_later_procedure, is_later_name, later_call, is_later_view, is_later_source, later_source, is_later_statement, is_later};
 
-use wm_base::tree::line::Line;
-use wm_base::tree::query::Src;
-use wm_base::tree::statement::Statement;
 use wm_grammar::{Procedure, procedure_of};
+use wm_syntax::line::Line;
+use wm_syntax::query::Src;
+use wm_syntax::statement::Statement;
 
 fn is_later_procedure(procedure: Procedure) -> bool
     ensures { result ≡ is_later_procedure procedure }

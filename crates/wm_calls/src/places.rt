@@ -2,9 +2,9 @@ ghost use Rattle.std.specs.Prelude.{◌≡◌, List};
 ghost use Rattle.wm_grammar.specs.Calls.{is_text, is_some_same, is_among, placed_parameter, at_place};
 ghost use Rattle.wm_calls.specs.Places.{is_diff, parameters_in, parameter_at, valid_time_required, required_of};
 
-use wm_base::tree::constant::Const;
-use wm_base::tree::statement::{Arg, ArgValue};
 use wm_grammar::{Parameter, Procedure, is_same, parameter_of};
+use wm_syntax::constant::Const;
+use wm_syntax::statement::{Arg, ArgValue};
 
 pub fn is_diff(procedure: Procedure) -> bool
     ensures { result ≡ is_diff procedure }

@@ -6,7 +6,7 @@ use Rattle.wm_base.specs.declared.value.Value.{Value}
 use Rattle.wm_dml.specs.Changing.{added, row_key}
 use Rattle.wm_graph.specs.Parts.{parts_of}
 use Rattle.wm_graph.specs.Rules.{keep_rules}
-use Rattle.wm_image.specs.Listing.{IsFirstShared}
+use Rattle.wm_version_rows.specs.Listing.{IsFirstShared}
 use Rattle.wm_spec.specs.declared.record.space.Space.{Space}
 use Rattle.wm_spec.specs.declared.record.stored.Stored.{Stored}
 use Rattle.wm_spec.specs.declared.record.table.Table.{Table}

@@ -3,8 +3,8 @@ use Rattle.std.proofs.Common.{◌≡◌, ℕ, ◌<◌, ◌≤◌, true, List, �
 use Rattle.std.proofs.lemmas.Bool.{and_from, and_parts, le-leb, lt-ltb}
 use Rattle.std.specs.List.{list_all}
 use Rattle.wm_base.specs.Period.{Span}
-use Rattle.wm_base.specs.Trees.{Expr}
-use Rattle.wm_base.specs.Views.{exprs_view}
+use Rattle.wm_syntax.specs.Trees.{Expr}
+use Rattle.wm_syntax.specs.Views.{exprs_view}
 use Rattle.wm_base.specs.declared.value.Value.{Value}
 use Rattle.wm_dml.proofs.Changed.{same_key}
 use Rattle.wm_dml.specs.Changing.{added, row_key}

@@ -6,7 +6,7 @@ use Rattle.std.proofs.lemmas.Bool.{and_from, and_parts}
 use Rattle.std.specs.List.{list_all}
 use Rattle.std.specs.Option.{option_map, option_or}
 use Rattle.wm_base.specs.Period.{Span}
-use Rattle.wm_base.specs.Trees.{Set}
+use Rattle.wm_syntax.specs.Trees.{Set}
 use Rattle.wm_base.specs.declared.memory.Memory.{Memory}
 use Rattle.wm_base.specs.declared.row.Row.{Row}
 use Rattle.wm_base.specs.declared.value.Value.{Value}
@@ -17,7 +17,7 @@ use Rattle.wm_dml.specs.declared.moving.Move.{Move}
 use Rattle.wm_dml.specs.declared.moving.Shift.{Shift}
 use Rattle.wm_graph.specs.Parts.{Parts, parts_of}
 use Rattle.wm_graph.specs.Rules.{is_key, is_key_of, is_row_of, keep_rules, key_of}
-use Rattle.wm_image.specs.Listing.{AreSpans}
+use Rattle.wm_version_rows.specs.Listing.{AreSpans}
 use Rattle.wm_making.specs.Rows.{is_filled}
 use Rattle.wm_spec.specs.Lists.{Entry}
 use Rattle.wm_spec.specs.Stretches.{Stretch, rows_of_key}

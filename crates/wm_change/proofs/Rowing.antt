@@ -5,7 +5,7 @@ use Rattle.wm_base.specs.Period.{Span, always}
 use Rattle.wm_base.specs.declared.memory.Memory.{Memory}
 use Rattle.wm_base.specs.declared.row.Row.{Row}
 use Rattle.wm_base.specs.declared.refusal.Refusal.{Refusal}
-use Rattle.wm_base.specs.Trees.{Cond, Expr, Set}
+use Rattle.wm_syntax.specs.Trees.{Cond, Expr, Set}
 use Rattle.wm_dml.specs.Changing.{chosen, gone, updated_rows}
 use Rattle.wm_graph.specs.Parts.{parts_of}
 use Rattle.wm_spec.specs.declared.record.space.Space.{Space}

@@ -1,7 +1,7 @@
 -- What a plan does in the workspace that a session stands in.
 use Rattle.std.specs.Prelude.{ℕ, ◌≡◌, ◌<◌, true, List, length, Option, Some, None}
 use Rattle.std.specs.List.{list_all}
-use Rattle.wm_base.specs.Trees.{Cond, Set}
+use Rattle.wm_syntax.specs.Trees.{Cond, Set}
 use Rattle.wm_base.specs.declared.instant.TheConstants.{END}
 use Rattle.wm_base.specs.declared.row.Row.{Row}
 use Rattle.wm_change.specs.declared.site.Site.{Site}

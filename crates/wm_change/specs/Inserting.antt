@@ -1,6 +1,6 @@
 -- What is known of an INSERT whose statement is in order.
 use Rattle.std.specs.Prelude.{◌≡◌, true, List, Some, None}
-use Rattle.wm_base.specs.Views.{exprs_view}
+use Rattle.wm_syntax.specs.Views.{exprs_view}
 use Rattle.wm_making.specs.Inserting.{insert_fault}
 use Rattle.wm_model.specs.Planning.{named}
 use Rattle.wm_spec.specs.declared.record.stored.Stored.{Stored}

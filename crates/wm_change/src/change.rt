@@ -3,8 +3,8 @@ ghost use Rattle.std.specs.Prelude.{◌≡◌, ◌<◌, List, length, map, true,
 ghost use Rattle.std.specs.List.{list_all};
 ghost use Rattle.wm_base.specs.declared.instant.TheConstants.{END};
 ghost use Rattle.wm_base.specs.declared.row.Row.{Row as RowOf};
-ghost use Rattle.wm_base.specs.Trees.{Set as SetTree};
-ghost use Rattle.wm_base.specs.Views.{filter_view, sets_view};
+ghost use Rattle.wm_syntax.specs.Trees.{Set as SetTree};
+ghost use Rattle.wm_syntax.specs.Views.{filter_view, sets_view};
 ghost use Rattle.wm_dml.specs.Changing.{all_overlap, gone, updated_rows};
 ghost use Rattle.wm_dml.specs.Standing.{MayReplace, all_stand};
 ghost use Rattle.wm_change.specs.Acting.{AreFull, DoesAt, IsSite, IsUpdate};
@@ -23,8 +23,6 @@ use crate::moving::move_all;
 use crate::site::Site;
 use crate::write_all::write_all;
 use std::alloc::Global;
-use wm_base::tree::cond::Cond;
-use wm_base::tree::statement::Set;
 use wm_base::{Memory, Name, Period, Row, Value, Values};
 use wm_chosen::choosing::chosen_rows;
 use wm_dml::{deleted, moves_of, replacing, rows_fault, sets_period, updated_rows};
@@ -35,6 +33,8 @@ use wm_plan::planned::Planned;
 use wm_plan::refuse::{empty_period, no_table, not_built, not_latest, out_of_range, versioning};
 use wm_plan::session::{Session, Stand};
 use wm_plan::within::within;
+use wm_syntax::cond::Cond;
+use wm_syntax::statement::Set;
 use wm_typing::{delete_fault, update_fault};
 
 /// Whether the value is no empty text.

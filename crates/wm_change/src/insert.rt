@@ -2,7 +2,7 @@
 ghost use Rattle.std.specs.Prelude.{◌≡◌, ◌<◌, List, [], ◌∷◌, true, false, Some, IfOk};
 ghost use Rattle.std.specs.List.{list_all};
 ghost use Rattle.wm_base.specs.declared.instant.TheConstants.{END};
-ghost use Rattle.wm_base.specs.Views.{exprs_view};
+ghost use Rattle.wm_syntax.specs.Views.{exprs_view};
 ghost use Rattle.wm_change.specs.Acting.{DoesAs, DoesAt, IsSite};
 ghost use Rattle.wm_chosen.specs.Chosen.{is_keyed_row};
 ghost use Rattle.wm_plan.specs.Idle.{Idles};
@@ -19,8 +19,6 @@ ghost use Rattle.wm_state.specs.State.{Session as SessionState};
 use crate::site::Site;
 use crate::write_all::write_all;
 use std::alloc::Global;
-use wm_base::tree::column::Names;
-use wm_base::tree::expr::Expr;
 use wm_base::{Memory, Name, Period, Values};
 use wm_dml::{RowChange, added};
 use wm_expr::ValueFault;
@@ -33,6 +31,9 @@ use wm_plan::refuse::{
 };
 use wm_plan::session::{Session, Stand};
 use wm_spec::record::{Space, Table};
+use wm_syntax::column::Names;
+use wm_syntax::expr::Expr;
+use wm_version_rows::overlap::overlap;
 
 /// The statement, and the table that it names.
 #[derive(Clone, Copy)]
@@ -85,9 +86,7 @@ fn add_to(alloc: Global, site: Site<'_>, period: Period, row: Values) -> Result<
     let change = added(alloc, site.table, &period, row)?;
     let version = site.image.latest(site.session.space());
     let number = site.table.number;
-    let shared = site
-        .image
-        .overlap(alloc, version, number, &change.key, &period)?;
+    let shared = overlap(alloc, site.image, version, number, &change.key, &period)?;
     if let Some(shared) = shared {
         let told = told_period(site.table, shared);
         return Ok(Planned::answered(alloc, key_there(change.key, told)));

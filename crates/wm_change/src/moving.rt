@@ -22,6 +22,7 @@ use wm_image::Image;
 use wm_plan::planned::Planned;
 use wm_plan::refuse::key_there;
 use wm_spec::record::Table;
+use wm_version_rows::overlap::spans_of_key;
 
 /// The earliest part that a new period of a key shares with a row that stays, or with another new one.
 fn clash_at(
@@ -35,7 +36,7 @@ fn clash_at(
     requires { keep_rules (parts_of image.now) ≡ true }
     ensures { IfOk result (λ found. (moves : List MoveOf) (m : MoveOf) → AreShifts shifts.now moves → m.key ≡ key.now → Finds (parts_of image.now) version (λ es. clash_at es table.now moves m) (option_map (λ p. (key.now, p)) found)) }
 {
-    let spans = image.spans_of_key(alloc, version, table.number, key)?;
+    let spans = spans_of_key(alloc, image, version, table.number, key)?;
     let found = clash_in(alloc, shifts.of(key), spans.as_slice())?;
     Ok(found)
 }

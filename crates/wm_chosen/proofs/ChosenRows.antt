@@ -7,11 +7,11 @@ use Rattle.wm_base.specs.declared.columns.Column.{Column}
 use Rattle.wm_base.specs.declared.memory.Memory.{Memory}
 use Rattle.wm_base.specs.declared.row.Row.{Row}
 use Rattle.wm_base.specs.declared.value.Value.{Value}
-use Rattle.wm_base.specs.Trees.{Cond}
+use Rattle.wm_syntax.specs.Trees.{Cond}
 use Rattle.wm_dml.specs.Changing.{all_overlap, chosen, meets, own_columns, row_period}
 use Rattle.wm_graph.specs.Parts.{parts_of, table_of}
 use Rattle.wm_graph.specs.Rules.{keep_rules}
-use Rattle.wm_select.specs.Query.{where_of}
+use Rattle.wm_joining.specs.Kept.{where_of}
 use Rattle.wm_spec.specs.Conditions.{fits, typed}
 use Rattle.wm_spec.specs.declared.record.stored.Stored.{Stored}
 use Rattle.wm_spec.specs.declared.record.table.Table.{Table}

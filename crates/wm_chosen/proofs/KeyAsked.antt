@@ -8,15 +8,15 @@ use Rattle.std.specs.Ordering.{is_eq}
 use Rattle.std.specs.declared.cmp.Ordering.{Ordering}
 use Rattle.std.specs.declared.cmp.Ordering.TheVariants.{Less, Equal, Greater}
 use Rattle.wm_base.specs.Orders.{value_order-equal}
-use Rattle.wm_base.specs.Trees.{Cond, Or, And, Not, Compare, IsNull, OneOf, Between}
+use Rattle.wm_syntax.specs.Trees.{Cond, Or, And, Not, Compare, IsNull, OneOf, Between}
 use Rattle.wm_base.specs.declared.columns.Column.{Column}
 use Rattle.wm_base.specs.declared.memory.Memory.{Memory}
-use Rattle.wm_base.specs.declared.tree.column.Col.{Col}
-use Rattle.wm_base.specs.declared.tree.column.Suffix.{Suffix}
-use Rattle.wm_base.specs.declared.tree.cond.Cmp.TheVariants.{Eq, NotEq, BangEq, Lt, Le, Gt, Ge}
-use Rattle.wm_base.specs.declared.tree.constant.Const.{Const}
-use Rattle.wm_base.specs.declared.tree.operand.Operand.{Operand}
-use Rattle.wm_base.specs.declared.tree.operand.Operand.TheVariants as operands
+use Rattle.wm_syntax.specs.declared.column.Col.{Col}
+use Rattle.wm_syntax.specs.declared.column.Suffix.{Suffix}
+use Rattle.wm_syntax.specs.declared.cond.Cmp.TheVariants.{Eq, NotEq, BangEq, Lt, Le, Gt, Ge}
+use Rattle.wm_syntax.specs.declared.constant.Const.{Const}
+use Rattle.wm_syntax.specs.declared.operand.Operand.{Operand}
+use Rattle.wm_syntax.specs.declared.operand.Operand.TheVariants as operands
 use Rattle.wm_base.specs.declared.value.Value.{Value}
 use Rattle.wm_base.specs.declared.value.Value.TheVariants as values
 use Rattle.wm_dml.specs.Changing.{own_columns}
@@ -25,7 +25,7 @@ use Rattle.wm_spec.specs.Conditions.{is_yes, test, truth_if, truth_in, truth_of}
 use Rattle.wm_spec.specs.Operands.{constant_value, is_named, operand_value, suffixed}
 use Rattle.wm_spec.specs.declared.record.table.Table.{Table}
 use Rattle.wm_chosen.specs.Keyed.{FixesKey, across, asked, is_place, stands_at}
-use Rattle.wm_select.proofs.EqualLemmas.{both_yes}
+use Rattle.wm_joining.proofs.EqualLemmas.{both_yes}
 
 -- ---- equal values are one, and none of them is NULL
 

@@ -3,17 +3,17 @@ use Rattle.std.proofs.Common.{◌≡◌, ℕ, ◌+◌, ◌<◌, ◌≤◌, nat_l
 use Rattle.std.proofs.lemmas.Bool.{and_parts}
 use Rattle.std.proofs.lemmas.List.{get_or_append_left, get_or-append-add}
 use Rattle.std.proofs.lemmas.Option.{get_or_from_slice_get, slice_get-get_or, none-some}
-use Rattle.wm_base.specs.Trees.{Cond, Query, Src}
+use Rattle.wm_syntax.specs.Trees.{Cond, Query, Src}
 use Rattle.wm_base.specs.declared.columns.Column.{Column}
 use Rattle.wm_base.specs.declared.memory.Memory.{Memory}
 use Rattle.wm_base.specs.declared.row.Row.{Row}
-use Rattle.wm_base.specs.declared.tree.constant.Const.{Const}
+use Rattle.wm_syntax.specs.declared.constant.Const.{Const}
 use Rattle.wm_base.specs.declared.value.Value.{Value}
 use Rattle.std.specs.List.{list_all}
 use Rattle.wm_graph.proofs.Keyed.{table_keyed}
 use Rattle.wm_graph.specs.Rules.{is_table, key_of}
-use Rattle.wm_select.specs.Query.{is_kept, meets, meets_each}
-use Rattle.wm_select.specs.Tuples.{beside}
+use Rattle.wm_joining.specs.Kept.{is_kept, meets, meets_each}
+use Rattle.wm_joining.specs.Tuples.{beside}
 use Rattle.wm_spec.specs.Conditions.{truth_of}
 use Rattle.wm_spec.specs.Operands.{constant_value}
 use Rattle.wm_spec.specs.declared.record.table.Table.{Table}

@@ -9,14 +9,14 @@ use Rattle.std.specs.Ordering.{is_eq}
 use Rattle.wm_base.specs.Key.{key_order}
 use Rattle.wm_base.specs.Orders.{key_order-itself}
 use Rattle.wm_base.specs.Period.{Span}
-use Rattle.wm_base.specs.Trees.{Cond}
+use Rattle.wm_syntax.specs.Trees.{Cond}
 use Rattle.wm_base.specs.declared.memory.Memory.{Memory}
 use Rattle.wm_base.specs.declared.row.Row.{Row}
 use Rattle.wm_base.specs.declared.value.Value.{Value}
 use Rattle.wm_dml.specs.Changing.{chosen, meets, own_columns}
 use Rattle.wm_graph.specs.Parts.{Parts, parts_of, table_of}
 use Rattle.wm_graph.specs.Rules.{keep_rules, is_key, key_of}
-use Rattle.wm_image.specs.Listing.{IsKeyShowing}
+use Rattle.wm_version_rows.specs.Listing.{IsKeyShowing}
 use Rattle.wm_spec.specs.Conditions.{fits}
 use Rattle.wm_spec.proofs.Keys.{key_in-has}
 use Rattle.wm_spec.specs.Stretches.{Stretch, ComesBefore, KeysAscend, is_key_in}

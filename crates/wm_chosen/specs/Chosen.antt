@@ -4,7 +4,7 @@ use Rattle.std.specs.List.{list_all}
 use Rattle.wm_base.specs.Period.{Span}
 use Rattle.wm_base.specs.declared.row.Row.{Row}
 use Rattle.wm_base.specs.declared.value.Value.{Value}
-use Rattle.wm_base.specs.Trees.{Cond}
+use Rattle.wm_syntax.specs.Trees.{Cond}
 use Rattle.wm_dml.specs.Changing.{chosen, declared_values, row_key}
 use Rattle.wm_dml.specs.Standing.{is_period_alone}
 use Rattle.wm_graph.specs.Parts.{parts_of}

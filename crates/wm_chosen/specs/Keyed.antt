@@ -4,19 +4,19 @@ use Rattle.std.specs.List.{position}
 use Rattle.std.specs.Option.{option_or}
 use Rattle.wm_base.specs.declared.columns.Column.{Column}
 use Rattle.wm_base.specs.declared.row.Row.{Row}
-use Rattle.wm_base.specs.declared.tree.column.Col.{Col}
-use Rattle.wm_base.specs.declared.tree.column.Suffix.{Suffix}
-use Rattle.wm_base.specs.declared.tree.cond.Cmp.TheVariants.{Eq}
-use Rattle.wm_base.specs.declared.tree.constant.Const.{Const}
-use Rattle.wm_base.specs.declared.tree.operand.Operand.{Operand}
-use Rattle.wm_base.specs.declared.tree.operand.Operand.TheVariants as operands
+use Rattle.wm_syntax.specs.declared.column.Col.{Col}
+use Rattle.wm_syntax.specs.declared.column.Suffix.{Suffix}
+use Rattle.wm_syntax.specs.declared.cond.Cmp.TheVariants.{Eq}
+use Rattle.wm_syntax.specs.declared.constant.Const.{Const}
+use Rattle.wm_syntax.specs.declared.operand.Operand.{Operand}
+use Rattle.wm_syntax.specs.declared.operand.Operand.TheVariants as operands
 use Rattle.wm_base.specs.declared.value.Value.{Value}
-use Rattle.wm_base.specs.Trees.{Cond, And, Compare, Query, Src}
+use Rattle.wm_syntax.specs.Trees.{Cond, And, Compare, Query, Src}
 use Rattle.wm_dml.specs.Changing.{meets, own_columns}
 use Rattle.wm_graph.specs.Rules.{key_of}
 use Rattle.wm_spec.specs.Operands.{is_named}
 use Rattle.wm_spec.specs.declared.record.table.Table.{Table}
-use Rattle.wm_select.specs.Tuples.{beside}
+use Rattle.wm_joining.specs.Tuples.{beside}
 
 -- ---- what is asked
 

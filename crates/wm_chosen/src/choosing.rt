@@ -1,29 +1,30 @@
 //! The rows of a table that a condition chooses.
 ghost use Rattle.std.specs.Prelude.{◌≡◌, Option, true, Some, IfOk, IfSome};
 ghost use Rattle.std.specs.List.{list_all};
-ghost use Rattle.wm_base.specs.Trees.{Cond as CondTree};
+ghost use Rattle.wm_syntax.specs.Trees.{Cond as CondTree};
 ghost use Rattle.wm_base.specs.declared.row.Row.{Row as RowOf};
 ghost use Rattle.wm_base.specs.declared.truth.Truth.{Truth as TruthOf};
-ghost use Rattle.wm_base.specs.Views.{cond_view, filter_view};
+ghost use Rattle.wm_syntax.specs.Views.{cond_view, filter_view};
 ghost use Rattle.wm_dml.specs.Changing.{chosen, own_columns};
 ghost use Rattle.wm_chosen.specs.Chosen.{AreChosen};
 ghost use Rattle.wm_chosen.specs.Keyed.{FixesKey};
 ghost use Rattle.wm_graph.specs.Parts.{parts_of, table_of};
 ghost use Rattle.wm_graph.specs.Rules.{keep_rules};
-ghost use Rattle.wm_select.specs.Query.{where_of};
+ghost use Rattle.wm_joining.specs.Kept.{where_of};
 ghost use Rattle.wm_spec.specs.Conditions.{fits, truth_of, typed};
 ghost use Rattle.wm_spec.specs.declared.record.table.Table.{Table as TableOf};
 
 use crate::keyed::key_asked;
 use std::alloc::Global;
-use wm_base::tree::cond::Cond;
 use wm_base::{Columns, Key, Memory, Period, Row, RowList, Truth};
 use wm_dml::chosen;
 use wm_expr::truth;
 use wm_image::Image;
 use wm_rowtest::{Judge, RowTest};
 use wm_spec::record::Table;
+use wm_syntax::cond::Cond;
 use wm_typing::columns_of_table;
+use wm_version_rows::listing::{showing, showing_of_key};
 
 /// The rows on which the condition is true, which the closure judges.
 fn chosen_by<F: Fn(&Row) -> Truth + Judge + Drop>(
@@ -96,8 +97,8 @@ fn rows_read(
     ensures chosen { IfOk result (λ rows. (condition : Option CondTree) → IfSome key (FixesKey table.now condition) → AreChosen image.now version table.now within.now condition (chosen table.now condition rows)) }
 {
     match key {
-        Some(key) => image.showing_of_key(alloc, version, table, within, &key),
-        None => image.showing(alloc, version, table, within),
+        Some(key) => showing_of_key(alloc, image, version, table, within, &key),
+        None => showing(alloc, image, version, table, within),
     }
 }
 

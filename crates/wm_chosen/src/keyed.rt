@@ -1,23 +1,23 @@
 //! The key that a condition asks for, so that the rows of one key are read and not those of all.
 ghost use Rattle.std.specs.Prelude.{◌≡◌, ◌+◌, ◌≤◌, [], ◌∷◌, length, option_copied, true, IfOk, IfSome};
 ghost use Rattle.std.specs.Option.{option_or};
-ghost use Rattle.wm_base.specs.Views.{cond_view, filter_view, query_view, srcs_view};
+ghost use Rattle.wm_syntax.specs.Views.{cond_view, filter_view, query_view, srcs_view};
 ghost use Rattle.wm_dml.specs.Changing.{own_columns};
 ghost use Rattle.wm_chosen.specs.Keyed.{FixesKey, across, asked, is_place, stands_at};
 ghost use Rattle.wm_chosen.specs.Keyed.{FixesKeyAt, asked_by, asked_if, asked_on};
 ghost use Rattle.wm_graph.specs.Rules.{is_table};
-ghost use Rattle.wm_select.specs.Query.{is_kept};
+ghost use Rattle.wm_joining.specs.Kept.{is_kept};
 ghost use Rattle.wm_spec.specs.Operands.{constant_value};
 
 use std::alloc::Global;
-use wm_base::tree::column::{Col, Suffix};
-use wm_base::tree::cond::{Cmp, Cond};
-use wm_base::tree::constant::Const;
-use wm_base::tree::operand::Operand;
-use wm_base::tree::query::{Query, Src};
 use wm_base::{Column, Columns, Key, Memory, Value};
 use wm_expr::names::place_of;
 use wm_spec::record::Table;
+use wm_syntax::column::{Col, Suffix};
+use wm_syntax::cond::{Cmp, Cond};
+use wm_syntax::constant::Const;
+use wm_syntax::operand::Operand;
+use wm_syntax::query::{Query, Src};
 
 /// Whether the place that was found, of a column without a suffix, is this one.
 fn is_place(place: usize, suffix: Option<Suffix>, found: Option<usize>) -> bool

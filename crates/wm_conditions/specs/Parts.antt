@@ -1,8 +1,8 @@
 -- Readers of parts of a test.
 use Rattle.std.specs.Prelude.{ℕ, Bool, is_some, List, [], ◌∷◌}
-use Rattle.wm_base.specs.declared.tree.cond.Cmp.{Cmp}
-use Rattle.wm_base.specs.declared.tree.constant.Const.{Const}
-use Rattle.wm_base.specs.declared.tree.operand.Operand.{Operand}
+use Rattle.wm_syntax.specs.declared.cond.Cmp.{Cmp}
+use Rattle.wm_syntax.specs.declared.constant.Const.{Const}
+use Rattle.wm_syntax.specs.declared.operand.Operand.{Operand}
 use Rattle.wm_grammar.specs.Sorts as sorts
 use Rattle.wm_grammar.specs.Reading.{Reader, gives_at, mark_at, ◌>>=◌, ◌>>◌, optional_at}
 use Rattle.wm_grammar.specs.OperandReaders.{operand_at}

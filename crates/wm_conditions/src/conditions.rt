@@ -1,6 +1,6 @@
 ghost use Rattle.std.specs.Prelude.{◌≡◌, ◌≢◌, List, IfOk, IfErr};
-ghost use Rattle.wm_base.specs.Trees.{And, Or, Not, Compare, IsNull, OneOf, Between};
-ghost use Rattle.wm_base.specs.Views.{cond_view, filter_view};
+ghost use Rattle.wm_syntax.specs.Trees.{And, Or, Not, Compare, IsNull, OneOf, Between};
+ghost use Rattle.wm_syntax.specs.Views.{cond_view, filter_view};
 ghost use Rattle.wm_grammar.specs.ExpressionReaders.{comparison_at, next_constant_at, constant_list_at, chosen_at, test_of_at, test_at, and_at, conj_at, or_at, cond_of_at, negation_at, condition_at};
 ghost use Rattle.wm_grammar.specs.QueryReaders.{filter_at};
 ghost use Rattle.wm_grammar.specs.Sorts.{code_of};
@@ -9,10 +9,10 @@ ghost use Rattle.wm_terms.specs.Telling.{Told};
 ghost use Rattle.wm_terms.specs.declared.error.ParseError.TheVariants.{Memory};
 
 use std::alloc::Global;
-use wm_base::tree::cond::{Cmp, Cond};
-use wm_base::tree::constant::{Const, Consts};
-use wm_base::tree::operand::Operand;
 use wm_grammar::Sort;
+use wm_syntax::cond::{Cmp, Cond};
+use wm_syntax::constant::{Const, Consts};
+use wm_syntax::operand::Operand;
 use wm_terms::cursor::Cursor;
 use wm_terms::depth::DEPTH;
 use wm_terms::error::ParseError;

@@ -8,7 +8,7 @@ use Rattle.std.specs.Ordering.{is_eq}
 use Rattle.wm_base.proofs.Plain.{none_mapped, option_or_parts}
 use Rattle.wm_base.specs.Orders.{key_order-itself}
 use Rattle.wm_base.specs.Period.{Span, shared}
-use Rattle.wm_base.specs.Trees.{Cond, Set}
+use Rattle.wm_syntax.specs.Trees.{Cond, Set}
 use Rattle.wm_base.specs.declared.row.Row.{Row}
 use Rattle.wm_base.specs.declared.value.Value.{Value}
 use Rattle.wm_graph.specs.Rules.{is_table, has_key, key_of, is_row_of, is_key_of, is_key, are_typed}

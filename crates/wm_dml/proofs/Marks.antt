@@ -5,10 +5,10 @@ use Rattle.std.specs.Prelude.{Some, None, ◌&&◌, codes}
 use Rattle.std.specs.Option.{option_or}
 use Rattle.wm_base.proofs.Plain.{option_or_parts}
 use Rattle.wm_base.specs.declared.columns.Column.{Column}
-use Rattle.wm_base.specs.declared.tree.constant.Const.TheVariants as constants
-use Rattle.wm_base.specs.declared.tree.operand.Operand.{Operand}
-use Rattle.wm_base.specs.declared.tree.operand.Operand.TheVariants as operands
-use Rattle.wm_base.specs.Trees.{Expr, Of, Neg, Add, Sub, Mul}
+use Rattle.wm_syntax.specs.declared.constant.Const.TheVariants as constants
+use Rattle.wm_syntax.specs.declared.operand.Operand.{Operand}
+use Rattle.wm_syntax.specs.declared.operand.Operand.TheVariants as operands
+use Rattle.wm_syntax.specs.Trees.{Expr, Of, Neg, Add, Sub, Mul}
 use Rattle.wm_making.proofs.Fitted.{numbers_last}
 use Rattle.wm_spec.specs.Expressions.{lasts, has_no_empty_period}
 use Rattle.wm_typing.proofs.Nones.{holds}

@@ -7,12 +7,12 @@ use Rattle.std.specs.Prelude.{Option, not, ◌&&◌}
 use Rattle.std.specs.List.{list_all, list_any, flat_map}
 use Rattle.wm_base.proofs.Plain.{and_swap}
 use Rattle.wm_base.specs.Period.{Span, equals}
-use Rattle.wm_base.specs.Trees.{Set}
+use Rattle.wm_syntax.specs.Trees.{Set}
 use Rattle.wm_base.specs.declared.row.Row.{Row}
 use Rattle.wm_base.specs.declared.value.Value.{Value}
 use Rattle.wm_graph.specs.Rules.{is_row_of, is_key_of}
 use Rattle.wm_making.specs.Rows.{is_filled}
-use Rattle.wm_select.specs.Sorting.{placed, sorted}
+use Rattle.wm_ordering.specs.Sorting.{placed, sorted}
 use Rattle.wm_spec.specs.declared.record.table.Table.{Table}
 use Rattle.wm_temporal.specs.Uncovered.{free}
 use Rattle.wm_dml.specs.Changing.{row_key}

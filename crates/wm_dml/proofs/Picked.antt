@@ -5,10 +5,10 @@ use Rattle.std.specs.Prelude.{Option, Some, not}
 use Rattle.std.specs.List.{list_all, list_any, find}
 use Rattle.wm_base.specs.declared.columns.Column.{Column}
 use Rattle.wm_base.specs.declared.row.Row.{Row}
-use Rattle.wm_base.specs.Trees.{Cond}
+use Rattle.wm_syntax.specs.Trees.{Cond}
 use Rattle.wm_graph.specs.Rules.{differ}
-use Rattle.wm_select.proofs.KeptLemmas.{where_met}
-use Rattle.wm_select.specs.Query.{where_of}
+use Rattle.wm_joining.proofs.KeptLemmas.{where_met}
+use Rattle.wm_joining.specs.Kept.{where_of}
 use Rattle.wm_spec.specs.Conditions.{truth_of, is_yes}
 use Rattle.wm_spec.specs.declared.record.table.Table.{Table}
 use Rattle.wm_dml.specs.Changing.{own_columns, meets, chosen}

@@ -12,7 +12,7 @@ use Rattle.wm_base.proofs.Plain.{none_mapped}
 use Rattle.wm_base.specs.declared.columns.Column.{Column}
 use Rattle.wm_base.specs.declared.row.Row.{Row}
 use Rattle.wm_base.specs.declared.value.Value.{Value}
-use Rattle.wm_base.specs.Trees.{Set}
+use Rattle.wm_syntax.specs.Trees.{Set}
 use Rattle.wm_base.specs.Value.{type_place}
 use Rattle.wm_graph.specs.Rules.{differ, same_column, is_table, has_key, type_of, fits_column, fit_columns, is_key_of}
 use Rattle.wm_graph.proofs.Keyed.{OneKey, one_key, key_alone}

@@ -13,7 +13,7 @@ use Rattle.wm_graph.specs.Rules.{type_of, fits_column, fit_columns, is_row_of, i
 use Rattle.wm_making.proofs.Fitted.{of_type}
 use Rattle.wm_making.proofs.Written.{turned_test}
 use Rattle.wm_making.specs.Rows.{is_filled}
-use Rattle.wm_select.proofs.FitLemmas.{fits_append}
+use Rattle.wm_joining.proofs.FitLemmas.{fits_append}
 use Rattle.wm_spec.specs.Conditions.{fits}
 use Rattle.wm_spec.specs.Operands.{fits_columns, period_of}
 use Rattle.wm_spec.specs.declared.record.column.TableColumn.{TableColumn}

@@ -6,13 +6,13 @@ use Rattle.std.specs.List.{position}
 use Rattle.std.specs.Option.{option_and_then}
 use Rattle.wm_base.specs.declared.columns.Column.{Column}
 use Rattle.wm_base.specs.declared.row.Row.{Row}
-use Rattle.wm_base.specs.declared.tree.column.Suffix.{Suffix}
-use Rattle.wm_base.specs.declared.tree.column.Suffix.TheVariants.{ValidFrom, ValidTill}
-use Rattle.wm_base.specs.declared.tree.operand.Operand.{Operand}
-use Rattle.wm_base.specs.declared.tree.operand.Operand.TheVariants as operands
+use Rattle.wm_syntax.specs.declared.column.Suffix.{Suffix}
+use Rattle.wm_syntax.specs.declared.column.Suffix.TheVariants.{ValidFrom, ValidTill}
+use Rattle.wm_syntax.specs.declared.operand.Operand.{Operand}
+use Rattle.wm_syntax.specs.declared.operand.Operand.TheVariants as operands
 use Rattle.wm_base.specs.declared.value.Value.{Value}
 use Rattle.wm_base.specs.declared.value.Value.TheVariants as values
-use Rattle.wm_base.specs.Trees.{Expr, Of, Neg, Add, Sub, Mul}
+use Rattle.wm_syntax.specs.Trees.{Expr, Of, Neg, Add, Sub, Mul}
 use Rattle.wm_making.proofs.Fitted.{of_type, number_typed, constant_typed, tested_typed, chosen as one_chosen}
 use Rattle.wm_spec.specs.Expressions.{number_in, value_of}
 use Rattle.wm_spec.specs.Operands.{is_named, kind_of, suffixed_kind, constant_kind, constant_value, is_period, operand_kind, fits_columns, value_at, suffixed, period_at, tested, operand_value}

@@ -9,7 +9,7 @@ use Rattle.wm_base.specs.declared.refusal.Refusal.{Refusal}
 use Rattle.wm_base.specs.declared.row.Row.{Row}
 use Rattle.wm_base.specs.declared.value.Value.{Value}
 use Rattle.wm_base.specs.Period.{Span, always, overlaps, shared}
-use Rattle.wm_base.specs.Trees.{Cond, Set}
+use Rattle.wm_syntax.specs.Trees.{Cond, Set}
 use Rattle.wm_graph.specs.Rules.{key_of}
 use Rattle.wm_making.specs.Rows.{before, stored, first_column, lacks_value, heavy_part, null_in, too_heavy}
 use Rattle.wm_spec.specs.Conditions.{truth_of, is_yes}

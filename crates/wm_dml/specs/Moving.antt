@@ -13,8 +13,8 @@ use Rattle.wm_base.specs.declared.kind.Kind.TheVariants.{Update, Delete}
 use Rattle.wm_base.specs.declared.row.Row.{Row}
 use Rattle.wm_base.specs.declared.value.Value.{Value}
 use Rattle.wm_base.specs.Period.{Span, always, equals, overlaps, shared, span_order}
-use Rattle.wm_base.specs.Trees.{Set}
-use Rattle.wm_select.specs.Sorting.{sorted}
+use Rattle.wm_syntax.specs.Trees.{Set}
+use Rattle.wm_ordering.specs.Sorting.{sorted}
 use Rattle.wm_spec.specs.Expressions.{value_of}
 use Rattle.wm_spec.specs.Operands.{period_of, wm_valid}
 use Rattle.wm_spec.specs.declared.record.table.Table.{Table}

@@ -3,10 +3,10 @@ ghost use Rattle.std.specs.Prelude.{◌≡◌, Bool, true, List, filter, Option,
 ghost use Rattle.std.specs.List.{list_all};
 ghost use Rattle.wm_base.specs.declared.row.Row.{Row as RowOf};
 ghost use Rattle.wm_base.specs.declared.value.Value.{Value as ValueOf};
-ghost use Rattle.wm_base.specs.Trees.{Cond as CondTree};
-ghost use Rattle.wm_base.specs.Views.{cond_view};
+ghost use Rattle.wm_syntax.specs.Trees.{Cond as CondTree};
+ghost use Rattle.wm_syntax.specs.Views.{cond_view};
 ghost use Rattle.wm_graph.specs.Rules.{differ};
-ghost use Rattle.wm_select.specs.Query.{where_of};
+ghost use Rattle.wm_joining.specs.Kept.{where_of};
 ghost use Rattle.wm_spec.specs.Conditions.{fits, truth_of, is_yes};
 ghost use Rattle.wm_spec.specs.declared.record.table.Table.{Table as TableOf};
 ghost use Rattle.wm_dml.specs.Changing.{own_columns, chosen as chosen_of};

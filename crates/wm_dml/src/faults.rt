@@ -1,6 +1,6 @@
 //! What UPDATE is refused for by the rows that it would write.
 ghost use Rattle.std.specs.Prelude.{◌≡◌, true, List, Option, None, Some, IfOk, option_copied};
-ghost use Rattle.wm_base.specs.Trees.{Cond as CondTree, Set as SetTree};
+ghost use Rattle.wm_syntax.specs.Trees.{Cond as CondTree, Set as SetTree};
 ghost use Rattle.wm_base.specs.declared.row.Row.{Row as RowOf};
 ghost use Rattle.wm_graph.specs.Rules.{has_key, is_table};
 ghost use Rattle.wm_making.specs.Rows.{first_column, lacks_value, heavy_part as heavy_of};

@@ -3,10 +3,10 @@ ghost use Rattle.std.specs.Prelude.{◌≡◌, ◌∷◌, ◌++◌, [], Bool, tr
 ghost use Rattle.std.specs.List.{flat_map, list_all, list_any};
 ghost use Rattle.std.specs.Option.{option_and_then};
 ghost use Rattle.wm_base.specs.Period.{Span, always, equals};
-ghost use Rattle.wm_base.specs.Trees.{Set as SetTree};
+ghost use Rattle.wm_syntax.specs.Trees.{Set as SetTree};
 ghost use Rattle.wm_base.specs.declared.value.Value.{Value as OneValue};
-ghost use Rattle.wm_base.specs.Views.{expr_view, sets_view};
-ghost use Rattle.wm_select.specs.Sorting.{sorted};
+ghost use Rattle.wm_syntax.specs.Views.{expr_view, sets_view};
+ghost use Rattle.wm_ordering.specs.Sorting.{sorted};
 ghost use Rattle.wm_spec.specs.Expressions.{value_of, has_no_empty_period};
 ghost use Rattle.wm_spec.specs.Operands.{period_of};
 ghost use Rattle.wm_temporal.specs.Uncovered.{free};
@@ -24,10 +24,10 @@ use crate::shown::row_period;
 use crate::updated::valid_set;
 use std::alloc::Global;
 use std::cmp::Ordering;
-use wm_base::tree::statement::Set;
 use wm_base::{Columns, Key, Kind, Memory, Period, Row, Value, Values};
 use wm_expr::{ValueFault, value};
 use wm_spec::record::Table;
+use wm_syntax::statement::Set;
 use wm_temporal::uncovered;
 use wm_typing::columns_of_table;
 

@@ -3,19 +3,19 @@ ghost use Rattle.std.specs.Prelude.{◌≡◌, true, Some, None, length, bytes_e
 ghost use Rattle.std.specs.List.{list_all, list_any, find};
 ghost use Rattle.std.specs.Option.{option_copied, option_map};
 ghost use Rattle.std.specs.Result.{IsErrOf};
-ghost use Rattle.wm_base.specs.Trees.{Set as SetTree};
-ghost use Rattle.wm_base.specs.Views.{expr_view, set_view, sets_view};
+ghost use Rattle.wm_syntax.specs.Trees.{Set as SetTree};
+ghost use Rattle.wm_syntax.specs.Views.{expr_view, set_view, sets_view};
 ghost use Rattle.wm_spec.specs.Expressions.{value_of, has_no_empty_period};
 ghost use Rattle.wm_spec.specs.Operands.{wm_valid};
 ghost use Rattle.wm_making.specs.Rows.{stored as as_stored};
 ghost use Rattle.wm_dml.specs.Changing.{own_columns, sets_period as period_set, set_value as value_set, set_values as values_set, updated_rows as rows_of};
 
 use std::alloc::Global;
-use wm_base::tree::statement::Set;
 use wm_base::{Columns, Row, Value, Values};
 use wm_expr::{ValueFault, value};
 use wm_making::stored;
 use wm_spec::record::{Table, TableColumn};
+use wm_syntax::statement::Set;
 use wm_typing::columns_of_table;
 
 /// Whether one of the changes is of WM_VALID.

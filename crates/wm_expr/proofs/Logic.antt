@@ -1,8 +1,8 @@
 -- OR and AND are associative, and a list of constants may be gone through from either side.
 use Rattle.std.proofs.Common.{◌≡◌, ℕ, ◌+◌, ◌<◌, List, [], ◌∷◌, ◌++◌, length, take, get_or, refl, sym, ap, ◌∙◌}
 use Rattle.std.proofs.lemmas.List.{take_more}
-use Rattle.wm_base.specs.declared.tree.cond.Cmp.TheVariants.{Eq}
-use Rattle.wm_base.specs.declared.tree.constant.Const.{Const}
+use Rattle.wm_syntax.specs.declared.cond.Cmp.TheVariants.{Eq}
+use Rattle.wm_syntax.specs.declared.constant.Const.{Const}
 use Rattle.wm_base.specs.declared.truth.Truth.{Truth}
 use Rattle.wm_base.specs.declared.truth.Truth.TheVariants.{Yes, No, Unknown}
 use Rattle.wm_base.specs.declared.value.Value.{Value}

@@ -8,8 +8,8 @@ use crate::operands::constant_seen;
 use crate::seen::Seen;
 use std::cmp::Ordering;
 use wm_base::Truth;
-use wm_base::tree::cond::Cmp;
-use wm_base::tree::constant::Const;
+use wm_syntax::cond::Cmp;
+use wm_syntax::constant::Const;
 
 /// How two values compare, or None exactly where one is NULL or they differ in type.
 pub fn compare(one: Seen, other: Seen) -> Option<Ordering>

@@ -1,13 +1,13 @@
 //! How true a condition is on a row.
 ghost use Rattle.std.specs.Prelude.{◌≡◌};
 ghost use Rattle.wm_base.specs.Truth.{truth_and, truth_or};
-ghost use Rattle.wm_base.specs.Views.{cond_view};
+ghost use Rattle.wm_syntax.specs.Views.{cond_view};
 ghost use Rattle.wm_spec.specs.Conditions.{truth_of, truth_in as truth_of_values};
 
 use crate::compare::{between, is_null, negate_if, one_of, test, truth_if};
 use crate::operands::operand_seen;
-use wm_base::tree::cond::Cond;
 use wm_base::{Column, Columns, Row, Truth, Value};
+use wm_syntax::cond::Cond;
 
 /// How true the condition is for a row of these columns. A comparison with NULL is unknown, and AND, OR and NOT are
 /// those of three-valued logic. A column that is not there is NULL.

@@ -2,7 +2,7 @@
 ghost use Rattle.std.specs.Prelude.{◌≡◌, ℤ, ◌+ℤ◌, ◌-ℤ◌, ◌*ℤ◌, true, IfOk, option_map, SomeIff, FitsSigned};
 ghost use Rattle.std.specs.Int.{w64};
 ghost use Rattle.std.specs.Result.{IsErrOf};
-ghost use Rattle.wm_base.specs.Views.{expr_view};
+ghost use Rattle.wm_syntax.specs.Views.{expr_view};
 ghost use Rattle.wm_spec.specs.Expressions.{number_of as number_of_value, in_range as range, negative as negated, together, number_in, number_value, value_of, has_no_empty_period};
 ghost use Rattle.wm_expr.specs.Seen.{seen_value};
 
@@ -11,8 +11,8 @@ use crate::operands::operand_seen;
 use crate::owned::operand_value;
 use crate::seen::Seen;
 use std::alloc::Global;
-use wm_base::tree::expr::Expr;
 use wm_base::{Column, Columns, Row, Value};
+use wm_syntax::expr::Expr;
 
 /// The number that a value is.
 fn number_of(value: Seen) -> Option<i64>

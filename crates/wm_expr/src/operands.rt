@@ -6,10 +6,10 @@ ghost use Rattle.wm_expr.specs.Seen.{seen_value, ends_span};
 use crate::names::found_at;
 use crate::periods::seconds_of;
 use crate::seen::Seen;
-use wm_base::tree::column::Suffix;
-use wm_base::tree::constant::Const;
-use wm_base::tree::operand::{Operand, Operator, Per};
 use wm_base::{Column, Name, Value};
+use wm_syntax::column::Suffix;
+use wm_syntax::constant::Const;
+use wm_syntax::operand::{Operand, Operator, Per};
 
 /// The value where it lies.
 fn seen(value: &Value) -> Seen<'_>

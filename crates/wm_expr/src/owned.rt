@@ -7,10 +7,10 @@ use crate::names::found_at;
 use crate::operands::operand_seen;
 use crate::seen::Seen;
 use std::alloc::Global;
-use wm_base::tree::column::{Col, Suffix};
-use wm_base::tree::constant::{Const, PeriodEnd};
-use wm_base::tree::operand::Operand;
 use wm_base::{Column, Instant, Memory, Period, Value};
+use wm_syntax::column::{Col, Suffix};
+use wm_syntax::constant::{Const, PeriodEnd};
+use wm_syntax::operand::Operand;
 
 /// A copy of the value, or of the end of a period that the suffix names. What is not there is NULL.
 pub fn copy_at_end(

@@ -1,12 +1,12 @@
 //! Whether written periods are empty.
 ghost use Rattle.std.specs.Prelude.{◌≡◌};
-ghost use Rattle.wm_base.specs.Views.{expr_view};
+ghost use Rattle.wm_syntax.specs.Views.{expr_view};
 ghost use Rattle.wm_spec.specs.Operands.{end_seconds};
 ghost use Rattle.wm_spec.specs.Expressions.{lasts as lasts_in, has_no_empty_period as has_none};
 
-use wm_base::tree::constant::{Const, PeriodEnd};
-use wm_base::tree::expr::Expr;
-use wm_base::tree::operand::Operand;
+use wm_syntax::constant::{Const, PeriodEnd};
+use wm_syntax::expr::Expr;
+use wm_syntax::operand::Operand;
 
 /// The seconds of an end. The moment of the line stands in the place of SYSDATE before anything is evaluated.
 pub fn seconds_of(end: &PeriodEnd) -> u64

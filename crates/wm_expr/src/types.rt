@@ -1,17 +1,17 @@
 //! The kinds of operands, and whether a condition is typed.
 ghost use Rattle.std.specs.Prelude.{◌≡◌, ◌&&◌, is_some};
 ghost use Rattle.std.specs.List.{list_all};
-ghost use Rattle.wm_base.specs.Views.{cond_view};
+ghost use Rattle.wm_syntax.specs.Views.{cond_view};
 ghost use Rattle.wm_spec.specs.Conditions.{typed as typed_for, typed_in, may_compare as comparable, is_one_type as one_type};
 ghost use Rattle.wm_spec.specs.Operands.{suffixed_kind, constant_kind as kind_of_constant, is_period as period_for, operand_kind as kind_of_operand};
 
 use crate::names::kind_of;
 use wm_base::columns::{NUMBER, PERIOD, TEXT, TIME};
-use wm_base::tree::column::Suffix;
-use wm_base::tree::cond::Cond;
-use wm_base::tree::constant::Const;
-use wm_base::tree::operand::{Operand, Per};
 use wm_base::{Column, Columns};
+use wm_syntax::column::Suffix;
+use wm_syntax::cond::Cond;
+use wm_syntax::constant::Const;
+use wm_syntax::operand::{Operand, Per};
 
 /// The kind of a constant that is NULL, which is of every type.
 const ANY: u8 = 0;

@@ -3,12 +3,12 @@ use Rattle.std.proofs.Common.{◌≡◌, ℕ, Bool, true, false, List, [], ◌�
 use Rattle.std.specs.Prelude.{pos}
 use Rattle.std.proofs.Math.IntN.{neg_ℤ}
 use Rattle.wm_base.specs.declared.instant.TheConstants.{END}
-use Rattle.wm_base.specs.declared.tree.constant.Const.TheVariants as consts
-use Rattle.wm_base.specs.declared.tree.statement.ArgValue.{ArgValue}
-use Rattle.wm_base.specs.declared.tree.statement.ArgValue.TheVariants as values
-use Rattle.wm_base.specs.declared.tree.statement.Arg.{Arg}
-use Rattle.wm_base.specs.Trees.{Cond, Statement}
-use Rattle.wm_base.specs.Trees as trees
+use Rattle.wm_syntax.specs.declared.constant.Const.TheVariants as consts
+use Rattle.wm_syntax.specs.declared.statement.ArgValue.{ArgValue}
+use Rattle.wm_syntax.specs.declared.statement.ArgValue.TheVariants as values
+use Rattle.wm_syntax.specs.declared.statement.Arg.{Arg}
+use Rattle.wm_syntax.specs.Trees.{Cond, Statement}
+use Rattle.wm_syntax.specs.Trees as trees
 use Rattle.wm_grammar.specs.declared.procedure.Procedure.{Procedure}
 use Rattle.wm_grammar.specs.declared.procedure.Parameter.{Parameter}
 use Rattle.wm_grammar.specs.declared.procedure.Parameter.TheVariants as parameters

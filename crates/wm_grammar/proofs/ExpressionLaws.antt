@@ -1,10 +1,10 @@
 -- The readers of expressions and conditions are exact.
 use Rattle.std.proofs.Common.{◌≡◌, ℕ, zero, suc, Bool, true, false, List, [], ◌∷◌, Option, Some, None, refl}
 use Rattle.std.specs.Prelude.{is_some}
-use Rattle.wm_base.specs.declared.tree.operand.Operand.{Operand}
-use Rattle.wm_base.specs.declared.tree.cond.Cmp.TheVariants as cmps
-use Rattle.wm_base.specs.Trees.{Expr, Cond}
-use Rattle.wm_base.specs.Trees as trees
+use Rattle.wm_syntax.specs.declared.operand.Operand.{Operand}
+use Rattle.wm_syntax.specs.declared.cond.Cmp.TheVariants as cmps
+use Rattle.wm_syntax.specs.Trees.{Expr, Cond}
+use Rattle.wm_syntax.specs.Trees as trees
 use Rattle.wm_grammar.specs.Sorts as sorts
 use Rattle.wm_grammar.specs.Forms.{Form}
 use Rattle.wm_grammar.specs.Reading.{Reader}

@@ -1,12 +1,12 @@
 -- The readers of queries are exact.
 use Rattle.std.proofs.Common.{◌≡◌, ℕ, zero, suc, Bool, true, false, List, [], ◌∷◌, Option, Some, None, refl}
 use Rattle.std.specs.Prelude.{is_some, pos}
-use Rattle.wm_base.specs.declared.tree.query.Agg.TheVariants as aggs
-use Rattle.wm_base.specs.declared.tree.query.OrderBy.TheVariants as keys
-use Rattle.wm_base.specs.declared.tree.query.Order.{Order}
-use Rattle.wm_base.specs.declared.tree.column.Col.{Col}
-use Rattle.wm_base.specs.Trees.{Expr, Cond, Item, Out, Projection, Src, Query, has_aggregate}
-use Rattle.wm_base.specs.Trees as trees
+use Rattle.wm_syntax.specs.declared.query.Agg.TheVariants as aggs
+use Rattle.wm_syntax.specs.declared.query.OrderBy.TheVariants as keys
+use Rattle.wm_syntax.specs.declared.query.Order.{Order}
+use Rattle.wm_syntax.specs.declared.column.Col.{Col}
+use Rattle.wm_syntax.specs.Trees.{Expr, Cond, Item, Out, Projection, Src, Query, has_aggregate}
+use Rattle.wm_syntax.specs.Trees as trees
 use Rattle.wm_grammar.specs.Sorts as sorts
 use Rattle.wm_grammar.specs.Forms.{Form, many_from}
 use Rattle.wm_grammar.specs.Reading.{Reader, many_from_at}

@@ -2,11 +2,11 @@
 use Rattle.std.proofs.Common.{◌≡◌, ℕ, Bool, true, false, List, [], ◌∷◌, Option, Some, None, refl}
 use Rattle.std.specs.Prelude.{not, ◌&&◌, ◌==◌, if◌then◌else◌}
 use Rattle.std.specs.List.{list_all}
-use Rattle.wm_base.specs.declared.tree.statement.ColumnType.TheVariants as types
-use Rattle.wm_base.specs.declared.tree.statement.CreateItem.{CreateItem}
-use Rattle.wm_base.specs.declared.tree.statement.CreateItem.TheVariants as items
-use Rattle.wm_base.specs.Trees.{Expr, Cond, Set, Statement, Line}
-use Rattle.wm_base.specs.Trees as trees
+use Rattle.wm_syntax.specs.declared.statement.ColumnType.TheVariants as types
+use Rattle.wm_syntax.specs.declared.statement.CreateItem.{CreateItem}
+use Rattle.wm_syntax.specs.declared.statement.CreateItem.TheVariants as items
+use Rattle.wm_syntax.specs.Trees.{Expr, Cond, Set, Statement, Line}
+use Rattle.wm_syntax.specs.Trees as trees
 use Rattle.wm_grammar.specs.Sorts as sorts
 use Rattle.wm_grammar.specs.Meaning.{number_of}
 use Rattle.wm_grammar.specs.Forms.{Form, many_from}

@@ -1,12 +1,12 @@
 -- Calls of DBMS_WM: the table of procedures and their parameters, and what an argument is.
 use Rattle.std.specs.Prelude.{ℕ, zero, suc, ◌+◌, Bool, true, false, not, ◌||◌, ◌&&◌, ◌==◌, if◌then◌else◌, length, List, [], ◌∷◌, ◌++◌, Option, Some, None, is_some, Result, Ok, Err, codes, slice_get}
 use Rattle.std.specs.Str.{str_eq_ignore_ascii_case}
-use Rattle.wm_base.specs.declared.tree.constant.Const.{Const}
-use Rattle.wm_base.specs.declared.tree.constant.Const.TheVariants as consts
-use Rattle.wm_base.specs.declared.tree.statement.ArgValue.{ArgValue}
-use Rattle.wm_base.specs.declared.tree.statement.ArgValue.TheVariants as values
-use Rattle.wm_base.specs.declared.tree.statement.Arg.{Arg}
-use Rattle.wm_base.specs.Trees.{Cond}
+use Rattle.wm_syntax.specs.declared.constant.Const.{Const}
+use Rattle.wm_syntax.specs.declared.constant.Const.TheVariants as consts
+use Rattle.wm_syntax.specs.declared.statement.ArgValue.{ArgValue}
+use Rattle.wm_syntax.specs.declared.statement.ArgValue.TheVariants as values
+use Rattle.wm_syntax.specs.declared.statement.Arg.{Arg}
+use Rattle.wm_syntax.specs.Trees.{Cond}
 use Rattle.wm_grammar.specs.declared.procedure.Procedure.{Procedure}
 use Rattle.wm_grammar.specs.declared.procedure.Procedure.TheVariants as procedures
 use Rattle.wm_grammar.specs.declared.procedure.Parameter.{Parameter}

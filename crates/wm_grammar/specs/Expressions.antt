@@ -1,11 +1,11 @@
 -- Expressions and conditions. Where a depth is given, at most so many parentheses, signs and NOT may be open at one place.
 use Rattle.std.specs.Prelude.{ℕ, zero, suc, Bool, true, false, is_some, List, [], ◌∷◌, Option, Some, None}
-use Rattle.wm_base.specs.declared.tree.constant.Const.{Const}
-use Rattle.wm_base.specs.declared.tree.operand.Operand.{Operand}
-use Rattle.wm_base.specs.declared.tree.cond.Cmp.{Cmp}
-use Rattle.wm_base.specs.declared.tree.cond.Cmp.TheVariants as cmps
-use Rattle.wm_base.specs.Trees.{Expr, Cond}
-use Rattle.wm_base.specs.Trees as trees
+use Rattle.wm_syntax.specs.declared.constant.Const.{Const}
+use Rattle.wm_syntax.specs.declared.operand.Operand.{Operand}
+use Rattle.wm_syntax.specs.declared.cond.Cmp.{Cmp}
+use Rattle.wm_syntax.specs.declared.cond.Cmp.TheVariants as cmps
+use Rattle.wm_syntax.specs.Trees.{Expr, Cond}
+use Rattle.wm_syntax.specs.Trees as trees
 use Rattle.wm_grammar.specs.Sorts as sorts
 use Rattle.wm_grammar.specs.Forms.{Form, gives, mark, never, ◌>>=◌, ◌>>◌, ◌or◌, optional, many}
 use Rattle.wm_grammar.specs.Operands.{constant, operand, plain_operand}

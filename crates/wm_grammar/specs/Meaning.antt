@@ -2,8 +2,8 @@
 use Rattle.std.specs.Prelude.{ℕ, ◌+◌, ◌-◌, ◌*◌, Bool, true, false, ◌==◌, nat_le, if◌then◌else◌, List, [], ◌∷◌, length, take, drop, map, Option, Some, None, Result, Ok, Err, codes, bytes_eq}
 use Rattle.std.specs.Char.{to_ascii_uppercase}
 use Rattle.std.specs.Str.{str_eq_ignore_ascii_case}
-use Rattle.wm_base.specs.declared.tree.operand.Operator.{Operator}
-use Rattle.wm_base.specs.declared.tree.operand.Operator.TheVariants.{Overlaps, Contains, Meets, Equals, LessThan, GreaterThan}
+use Rattle.wm_syntax.specs.declared.operand.Operator.{Operator}
+use Rattle.wm_syntax.specs.declared.operand.Operator.TheVariants.{Overlaps, Contains, Meets, Equals, LessThan, GreaterThan}
 use Rattle.wm_instants.specs.declared.form.DateForm.{DateForm}
 use Rattle.wm_instants.specs.declared.form.DateForm.TheVariants.{Date, MonthFirst, Seconds}
 use Rattle.wm_instants.specs.declared.refusal.InstantRefusal.{InstantRefusal}

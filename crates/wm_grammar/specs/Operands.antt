@@ -2,18 +2,18 @@
 use Rattle.std.specs.Prelude.{ℕ, List, [], ◌∷◌, Option, Some, None, pos}
 use Rattle.std.proofs.Math.IntN.{neg_ℤ}
 use Rattle.wm_base.specs.declared.instant.TheConstants.{END}
-use Rattle.wm_base.specs.declared.tree.column.Col.{Col}
-use Rattle.wm_base.specs.declared.tree.column.Suffix.{Suffix}
-use Rattle.wm_base.specs.declared.tree.column.Suffix.TheVariants.{ValidFrom, ValidTill}
-use Rattle.wm_base.specs.declared.tree.constant.PeriodEnd.{PeriodEnd}
-use Rattle.wm_base.specs.declared.tree.constant.PeriodEnd.TheVariants as ends
-use Rattle.wm_base.specs.declared.tree.constant.Const.{Const}
-use Rattle.wm_base.specs.declared.tree.constant.Const.TheVariants as consts
-use Rattle.wm_base.specs.declared.tree.operand.Per.{Per}
-use Rattle.wm_base.specs.declared.tree.operand.Per.TheVariants as pers
-use Rattle.wm_base.specs.declared.tree.operand.Operator.{Operator}
-use Rattle.wm_base.specs.declared.tree.operand.Operand.{Operand}
-use Rattle.wm_base.specs.declared.tree.operand.Operand.TheVariants as operands
+use Rattle.wm_syntax.specs.declared.column.Col.{Col}
+use Rattle.wm_syntax.specs.declared.column.Suffix.{Suffix}
+use Rattle.wm_syntax.specs.declared.column.Suffix.TheVariants.{ValidFrom, ValidTill}
+use Rattle.wm_syntax.specs.declared.constant.PeriodEnd.{PeriodEnd}
+use Rattle.wm_syntax.specs.declared.constant.PeriodEnd.TheVariants as ends
+use Rattle.wm_syntax.specs.declared.constant.Const.{Const}
+use Rattle.wm_syntax.specs.declared.constant.Const.TheVariants as consts
+use Rattle.wm_syntax.specs.declared.operand.Per.{Per}
+use Rattle.wm_syntax.specs.declared.operand.Per.TheVariants as pers
+use Rattle.wm_syntax.specs.declared.operand.Operator.{Operator}
+use Rattle.wm_syntax.specs.declared.operand.Operand.{Operand}
+use Rattle.wm_syntax.specs.declared.operand.Operand.TheVariants as operands
 use Rattle.wm_instants.specs.declared.form.DateForm.{DateForm}
 use Rattle.wm_instants.specs.declared.form.DateForm.TheVariants as dates
 use Rattle.wm_grammar.specs.Symbols.{Symbol}

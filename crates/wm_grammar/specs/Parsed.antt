@@ -1,6 +1,6 @@
 -- What a line says, or why it says nothing, as a value.
 use Rattle.std.specs.Prelude.{ℕ, ◌+◌, ◌-◌, List, length, Option, Some, None, Result, Ok, Err}
-use Rattle.wm_base.specs.Trees.{Line}
+use Rattle.wm_syntax.specs.Trees.{Line}
 use Rattle.wm_grammar.specs.Scanned.{symbols_of}
 use Rattle.wm_grammar.specs.Faults.{all_of}
 use Rattle.wm_grammar.specs.StatementReaders.{line_at}

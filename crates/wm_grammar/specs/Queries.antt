@@ -1,13 +1,13 @@
 -- Queries.
 use Rattle.std.specs.Prelude.{ℕ, zero, suc, ◌-◌, Bool, true, false, is_some, List, [], ◌∷◌, Option, Some, None, pos}
-use Rattle.wm_base.specs.declared.tree.column.Col.{Col}
-use Rattle.wm_base.specs.declared.tree.query.Agg.{Agg}
-use Rattle.wm_base.specs.declared.tree.query.Agg.TheVariants as aggs
-use Rattle.wm_base.specs.declared.tree.query.OrderBy.{OrderBy}
-use Rattle.wm_base.specs.declared.tree.query.OrderBy.TheVariants as keys
-use Rattle.wm_base.specs.declared.tree.query.Order.{Order}
-use Rattle.wm_base.specs.Trees.{Expr, Cond, Item, Out, Projection, Src, Query, has_aggregate}
-use Rattle.wm_base.specs.Trees as trees
+use Rattle.wm_syntax.specs.declared.column.Col.{Col}
+use Rattle.wm_syntax.specs.declared.query.Agg.{Agg}
+use Rattle.wm_syntax.specs.declared.query.Agg.TheVariants as aggs
+use Rattle.wm_syntax.specs.declared.query.OrderBy.{OrderBy}
+use Rattle.wm_syntax.specs.declared.query.OrderBy.TheVariants as keys
+use Rattle.wm_syntax.specs.declared.query.Order.{Order}
+use Rattle.wm_syntax.specs.Trees.{Expr, Cond, Item, Out, Projection, Src, Query, has_aggregate}
+use Rattle.wm_syntax.specs.Trees as trees
 use Rattle.wm_grammar.specs.Sorts as sorts
 use Rattle.wm_grammar.specs.Forms.{Form, gives, mark, never, ◌>>=◌, ◌>>◌, ◌or◌, optional, many, many_from}
 use Rattle.wm_grammar.specs.Operands.{id, integer, column}

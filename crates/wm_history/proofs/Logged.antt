@@ -15,8 +15,8 @@ use Rattle.wm_spec.specs.declared.record.cell_range.CellRange.{CellRange}
 use Rattle.wm_spec.specs.declared.record.hist.Hist.{Hist}
 use Rattle.wm_spec.specs.declared.record.space.Space.{Space}
 use Rattle.wm_spec.specs.declared.record.stored.Stored.{Stored}
+use Rattle.wm_ids.proofs.IdLists.{less_than}
 use Rattle.wm_index.proofs.Firsts.{find-filter}
-use Rattle.wm_index.proofs.IdLists.{less_than}
 use Rattle.wm_index.specs.Hists.{AreByPosition, logged_on, stands_at}
 use Rattle.wm_state.proofs.Apart.{ruled}
 use Rattle.wm_state.proofs.ByKind.{Split, kinds, kinds-one, split_of}

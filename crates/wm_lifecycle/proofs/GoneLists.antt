@@ -11,9 +11,10 @@ use Rattle.wm_state.specs.ById.{Ascend}
 use Rattle.wm_state.proofs.Appending.{all_append}
 use Rattle.wm_changes.proofs.Dropping.{filter-with}
 use Rattle.wm_changes.proofs.DroppingAll.{differ-append, dropped-append}
+use Rattle.wm_ids.specs.Ids.{is_nil}
 use Rattle.wm_index.proofs.Finding.{all_of}
 use Rattle.wm_index.proofs.Using.{some_ids}
-use Rattle.wm_index.specs.Sought.{ids_with, is_nil}
+use Rattle.wm_index.specs.Sought.{ids_with}
 
 first : (o : ℕ) (os : List ℕ) → is_dropped (o ∷ os) o ≡ true
 first o os = ap (λ b. b || is_dropped os o) (eq-eqb o o refl)

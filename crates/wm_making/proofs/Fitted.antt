@@ -6,14 +6,14 @@ use Rattle.std.specs.Option.{option_or}
 use Rattle.std.proofs.lemmas.Bool.Decides.{nat_tests}
 use Rattle.wm_base.proofs.Plain.{option_or_parts}
 use Rattle.wm_base.specs.Period.{Span as Period}
-use Rattle.wm_base.specs.Trees.{Expr, Of, Neg, Add, Sub, Mul}
+use Rattle.wm_syntax.specs.Trees.{Expr, Of, Neg, Add, Sub, Mul}
 use Rattle.wm_base.specs.Value.{type_place}
-use Rattle.wm_base.specs.declared.tree.column.Suffix.{Suffix}
-use Rattle.wm_base.specs.declared.tree.constant.Const.{Const}
-use Rattle.wm_base.specs.declared.tree.constant.Const.TheVariants as constants
-use Rattle.wm_base.specs.declared.tree.operand.Operand.{Operand}
-use Rattle.wm_base.specs.declared.tree.operand.Operand.TheVariants as operands
-use Rattle.wm_base.specs.declared.tree.operand.Operator.{Operator}
+use Rattle.wm_syntax.specs.declared.column.Suffix.{Suffix}
+use Rattle.wm_syntax.specs.declared.constant.Const.{Const}
+use Rattle.wm_syntax.specs.declared.constant.Const.TheVariants as constants
+use Rattle.wm_syntax.specs.declared.operand.Operand.{Operand}
+use Rattle.wm_syntax.specs.declared.operand.Operand.TheVariants as operands
+use Rattle.wm_syntax.specs.declared.operand.Operator.{Operator}
 use Rattle.wm_base.specs.declared.value.Value.{Value}
 use Rattle.wm_base.specs.declared.value.Value.TheVariants as values
 use Rattle.wm_graph.specs.Rules.{type_of}

@@ -4,7 +4,7 @@ use Rattle.std.specs.Prelude.{Option, None, ◌&&◌, not, is_some}
 use Rattle.std.specs.List.{list_all}
 use Rattle.std.specs.Option.{option_and_then}
 use Rattle.wm_base.proofs.Plain.{none_since}
-use Rattle.wm_base.specs.Trees.{Expr}
+use Rattle.wm_syntax.specs.Trees.{Expr}
 use Rattle.wm_spec.specs.Expressions.{has_no_empty_period}
 use Rattle.wm_spec.specs.declared.record.table.Table.{Table}
 use Rattle.wm_making.specs.Inserting.{value_for_period, has_no_place, no_valid_time, insert_fault}

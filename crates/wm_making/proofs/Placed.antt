@@ -6,11 +6,11 @@ use Rattle.std.specs.Prelude.{Option, Some, None, is_none, is_some, slice_get}
 use Rattle.std.specs.List.{list_all}
 use Rattle.std.specs.Option.{option_and_then}
 use Rattle.wm_base.proofs.Plain.{option_or_parts}
-use Rattle.wm_base.specs.Trees.{Expr, Of, Neg, Add, Sub, Mul}
-use Rattle.wm_base.specs.declared.tree.column.Suffix.{Suffix}
-use Rattle.wm_base.specs.declared.tree.constant.Const.TheVariants as constants
-use Rattle.wm_base.specs.declared.tree.operand.Operand.{Operand}
-use Rattle.wm_base.specs.declared.tree.operand.Operand.TheVariants as operands
+use Rattle.wm_syntax.specs.Trees.{Expr, Of, Neg, Add, Sub, Mul}
+use Rattle.wm_syntax.specs.declared.column.Suffix.{Suffix}
+use Rattle.wm_syntax.specs.declared.constant.Const.TheVariants as constants
+use Rattle.wm_syntax.specs.declared.operand.Operand.{Operand}
+use Rattle.wm_syntax.specs.declared.operand.Operand.TheVariants as operands
 use Rattle.wm_spec.specs.Expressions.{has_no_empty_period}
 use Rattle.wm_spec.specs.Operands.{wm_valid, suffixed_kind}
 use Rattle.wm_spec.specs.declared.record.column.TableColumn.{TableColumn}

@@ -10,8 +10,8 @@ use Rattle.std.proofs.lemmas.List.Folds.{list_any-append}
 use Rattle.wm_base.proofs.Plain.{none_mapped, option_or_parts}
 use Rattle.wm_base.specs.declared.refusal.FormRefusal.TheVariants.{Wm016}
 use Rattle.wm_base.specs.declared.refusal.Refusal.TheVariants.{Form}
-use Rattle.wm_base.specs.declared.tree.statement.CreateItem.{CreateItem}
-use Rattle.wm_base.specs.declared.tree.statement.CreateItem.TheVariants.{Column, Primary}
+use Rattle.wm_syntax.specs.declared.statement.CreateItem.{CreateItem}
+use Rattle.wm_syntax.specs.declared.statement.CreateItem.TheVariants.{Column, Primary}
 use Rattle.wm_graph.specs.Rules.{differ, same_column, is_short, is_table}
 use Rattle.wm_spec.specs.declared.record.column.TableColumn.{TableColumn}
 use Rattle.wm_spec.specs.declared.record.table.Table.{Table}

@@ -10,7 +10,7 @@ use Rattle.std.proofs.lemmas.List.{length-map, length-take-le}
 use Rattle.std.proofs.lemmas.List.Quantifiers.{position-Some}
 use Rattle.std.proofs.lemmas.Option.{slice_get-get_or, slice_get-map}
 use Rattle.wm_base.proofs.Plain.{none_mapped, option_or_parts, and_last}
-use Rattle.wm_base.specs.Trees.{Expr}
+use Rattle.wm_syntax.specs.Trees.{Expr}
 use Rattle.wm_base.specs.Value.{type_place, weight_of}
 use Rattle.wm_base.specs.declared.value.Value.{Value}
 use Rattle.wm_base.specs.declared.value.Value.TheVariants as values

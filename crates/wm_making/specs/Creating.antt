@@ -7,10 +7,10 @@ use Rattle.wm_base.specs.declared.refusal.Refusal.{Refusal}
 use Rattle.wm_base.specs.declared.refusal.Refusal.TheVariants as refusals
 use Rattle.wm_base.specs.declared.refusal.FormRefusal.TheVariants.{Wm012, Wm014, Wm016}
 use Rattle.wm_base.specs.declared.refusal.SpaceRefusal.TheVariants.{Wm024}
-use Rattle.wm_base.specs.declared.tree.statement.ColumnType.{ColumnType}
-use Rattle.wm_base.specs.declared.tree.statement.ColumnType.TheVariants as types
-use Rattle.wm_base.specs.declared.tree.statement.CreateItem.{CreateItem}
-use Rattle.wm_base.specs.declared.tree.statement.CreateItem.TheVariants.{Column, Primary}
+use Rattle.wm_syntax.specs.declared.statement.ColumnType.{ColumnType}
+use Rattle.wm_syntax.specs.declared.statement.ColumnType.TheVariants as types
+use Rattle.wm_syntax.specs.declared.statement.CreateItem.{CreateItem}
+use Rattle.wm_syntax.specs.declared.statement.CreateItem.TheVariants.{Column, Primary}
 use Rattle.wm_graph.specs.Rules.{is_short}
 use Rattle.wm_spec.specs.declared.record.column.ColumnKind.{ColumnKind}
 use Rattle.wm_spec.specs.declared.record.column.ColumnKind.TheVariants as kinds

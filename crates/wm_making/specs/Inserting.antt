@@ -6,7 +6,7 @@ use Rattle.std.specs.Str.{bytes_eq}
 use Rattle.wm_base.specs.declared.refusal.Refusal.{Refusal}
 use Rattle.wm_base.specs.declared.refusal.Refusal.TheVariants.{Form}
 use Rattle.wm_base.specs.declared.refusal.FormRefusal.TheVariants.{Wm013, Wm017}
-use Rattle.wm_base.specs.Trees.{Expr}
+use Rattle.wm_syntax.specs.Trees.{Expr}
 use Rattle.wm_graph.specs.Rules.{type_of}
 use Rattle.wm_spec.specs.Operands.{wm_valid}
 use Rattle.wm_spec.specs.declared.record.column.ColumnKind.{ColumnKind}

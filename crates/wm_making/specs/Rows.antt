@@ -9,11 +9,11 @@ use Rattle.wm_base.specs.declared.refusal.CellRefusal.TheVariants.{Wm061, Wm063}
 use Rattle.wm_base.specs.declared.row.Row.{Row}
 use Rattle.wm_base.specs.declared.value.Value.{Value}
 use Rattle.wm_base.specs.declared.value.Value.TheVariants as values
-use Rattle.wm_base.specs.declared.tree.constant.Const.TheVariants as constants
-use Rattle.wm_base.specs.declared.tree.operand.Operand.{Operand}
-use Rattle.wm_base.specs.declared.tree.operand.Operand.TheVariants as operands
+use Rattle.wm_syntax.specs.declared.constant.Const.TheVariants as constants
+use Rattle.wm_syntax.specs.declared.operand.Operand.{Operand}
+use Rattle.wm_syntax.specs.declared.operand.Operand.TheVariants as operands
 use Rattle.wm_base.specs.Period.{Span}
-use Rattle.wm_base.specs.Trees.{Expr, Of, Neg, Add, Sub, Mul}
+use Rattle.wm_syntax.specs.Trees.{Expr, Of, Neg, Add, Sub, Mul}
 use Rattle.wm_base.specs.Value.{weight_of}
 use Rattle.wm_graph.specs.Rules.{weight, key_of, is_row_of, is_key_of}
 use Rattle.wm_spec.specs.Conditions.{is_null}

@@ -2,7 +2,7 @@
 ghost use Rattle.std.specs.Prelude.{◌≡◌, ◌==◌, ℕ, [], true, false, None, IfOk, is_some, slice_get, option_copied, length};
 ghost use Rattle.std.specs.List.{find, list_all, list_any};
 ghost use Rattle.std.specs.Str.{bytes_eq};
-ghost use Rattle.wm_base.specs.Views.{expr_view, exprs_view};
+ghost use Rattle.wm_syntax.specs.Views.{expr_view, exprs_view};
 ghost use Rattle.wm_spec.specs.Expressions.{has_no_empty_period};
 ghost use Rattle.wm_spec.specs.Operands.{wm_valid};
 ghost use Rattle.wm_making.specs.Inserting.{has_name as named_so, has_column as column_there, bad_name as bad_in, column_in as first_column_in, values_asked as asked_for, may_be_so_many as so_many, column_for as column_at, suits as suits_kind, misfit as misfit_of, is_period as period_kind, misfit_period as misfit_of_period, misfit_in as misfit_at, misfit_from, value_for_period, period_fault as fault_of_period, insert_fault as fault_of_insert};
@@ -12,10 +12,10 @@ use crate::misplaced::{HasColumns, misplaced};
 use crate::period::value_for_period;
 use std::alloc::Global;
 use wm_base::columns::{NUMBER, PERIOD, TEXT, TIME};
-use wm_base::tree::column::Names;
-use wm_base::tree::expr::Expr;
 use wm_base::{FormRefusal, Memory, Name, Refusal, Text};
 use wm_spec::record::{ColumnKind, Table, TableColumn};
+use wm_syntax::column::Names;
+use wm_syntax::expr::Expr;
 use wm_typing::{expr_kind, mistyped_in_expr, unknown_in_expr};
 
 fn has_name(name: &Name, column: &TableColumn) -> bool

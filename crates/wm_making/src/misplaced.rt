@@ -5,7 +5,7 @@ ghost use Rattle.std.specs.Str.{bytes_eq};
 ghost use Rattle.wm_making.specs.Creating.{declares as declares_name, misplaced as first_misplaced};
 
 use wm_base::Name;
-use wm_base::tree::statement::{CreateItem, CreateItems};
+use wm_syntax::statement::{CreateItem, CreateItems};
 
 /// What has columns, each under its name.
 pub trait HasColumns {

@@ -5,8 +5,8 @@ ghost use Rattle.wm_graph.specs.Rules.{is_short as short};
 ghost use Rattle.wm_making.specs.Creating.{declares_short as item_is_short, names_view as view_name, names_own_column as own_name, own_column as first_own, reserved_name as first_reserved, names_fault as fault_of_names};
 
 use std::alloc::Global;
-use wm_base::tree::statement::{CreateItem, CreateItems};
 use wm_base::{FormRefusal, Memory, Name, Refusal, SpaceRefusal};
+use wm_syntax::statement::{CreateItem, CreateItems};
 
 /// The most bytes of a name.
 const LONGEST: usize = 30;

@@ -1,19 +1,19 @@
 //! The period that INSERT gives to its row.
 ghost use Rattle.std.specs.Prelude.{◌≡◌, true, nat_lt, option_copied, option_map};
 ghost use Rattle.std.specs.List.{list_all};
-ghost use Rattle.wm_base.specs.Views.{expr_view, exprs_view};
+ghost use Rattle.wm_syntax.specs.Views.{expr_view, exprs_view};
 ghost use Rattle.wm_spec.specs.Expressions.{lasts, has_no_empty_period};
 ghost use Rattle.wm_spec.specs.Operands.{end_seconds, span_between};
 ghost use Rattle.wm_making.specs.Inserting.{value_for_period as value_of_period};
 ghost use Rattle.wm_making.specs.Rows.{written_in as period_in, written_period as period_of_expr, period_given as given_period};
 
 use crate::insert::column_for;
-use wm_base::tree::column::Names;
-use wm_base::tree::constant::{Const, PeriodEnd};
-use wm_base::tree::expr::Expr;
-use wm_base::tree::operand::Operand;
 use wm_base::{Instant, Period};
 use wm_spec::record::Table;
+use wm_syntax::column::Names;
+use wm_syntax::constant::{Const, PeriodEnd};
+use wm_syntax::expr::Expr;
+use wm_syntax::operand::Operand;
 
 /// The value for WM_VALID: the first that goes to no declared column.
 pub fn value_for_period<'a>(

@@ -1,6 +1,6 @@
 //! What a row is refused for by its values.
 ghost use Rattle.std.specs.Prelude.{◌≡◌, ℕ, List, Option, Some, None, true, nat_le, IfOk, option_copied};
-ghost use Rattle.wm_base.specs.Trees.{Expr as Tree};
+ghost use Rattle.wm_syntax.specs.Trees.{Expr as Tree};
 ghost use Rattle.wm_graph.specs.Rules.{weight, has_key, is_table};
 ghost use Rattle.wm_spec.specs.Conditions.{is_null as null};
 ghost use Rattle.wm_making.specs.Rows.{is_key_at as key_at, first_column, lacks_value as lacks_a_value, is_long as long_in, is_heavy as heavy_in, heavy_part as heavy_of, row_fault as fault_of_row, row_of, MayStand};

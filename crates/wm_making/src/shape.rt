@@ -5,8 +5,8 @@ ghost use Rattle.wm_making.specs.Creating.{declares, bad_column as bad_name_of, 
 
 use crate::misplaced::{is_declared, misplaced};
 use std::alloc::Global;
-use wm_base::tree::statement::{CreateItem, CreateItems};
 use wm_base::{FormRefusal, Memory, Name, Refusal};
+use wm_syntax::statement::{CreateItem, CreateItems};
 
 /// The most columns of a table.
 const MOST_COLUMNS: usize = 32;

@@ -6,9 +6,9 @@ ghost use Rattle.wm_spec.specs.declared.record.column.TableColumn.{TableColumn a
 ghost use Rattle.wm_making.specs.Creating.{key_name as name_of_key, kind_of as kind_of_type, size_of as size_of_type, is_key as names_key, columns_of as columns_of_items, key_place as place_of_key, key_places as places_of_key, names_fault, shape_fault, table_of as table_of_items};
 
 use std::alloc::Global;
-use wm_base::tree::statement::{ColumnType, CreateItem, CreateItems};
 use wm_base::{Memory, Name};
 use wm_spec::record::{ColumnKind, KeyColumns, Table, TableColumn, TableColumns};
+use wm_syntax::statement::{ColumnType, CreateItem, CreateItems};
 
 /// The name of the first column of the key.
 fn key_name(items: &[CreateItem]) -> Option<&Name>

@@ -4,17 +4,17 @@ ghost use Rattle.std.specs.List.{list_all, position};
 ghost use Rattle.std.specs.Option.{option_and_then};
 ghost use Rattle.std.specs.Result.{IsErrOf};
 ghost use Rattle.std.specs.Str.{bytes_eq};
-ghost use Rattle.wm_base.specs.Views.{expr_view, exprs_view};
+ghost use Rattle.wm_syntax.specs.Views.{expr_view, exprs_view};
 ghost use Rattle.wm_spec.specs.Expressions.{has_no_empty_period};
 ghost use Rattle.wm_spec.specs.declared.record.column.TableColumn.{TableColumn as ColumnOf};
 ghost use Rattle.wm_making.specs.Rows.{is_filled, stored as as_stored, value_alone as value_by_itself, values_of as all_values, value_named as named_value, row_of as values_of_row};
 
 use std::alloc::Global;
-use wm_base::tree::column::Names;
-use wm_base::tree::expr::Expr;
 use wm_base::{Columns, Memory, Name, Row, Value, Values};
 use wm_expr::{ValueFault, value};
 use wm_spec::record::{Table, TableColumn};
+use wm_syntax::column::Names;
+use wm_syntax::expr::Expr;
 
 /// The value as a row has it: an empty text is NULL.
 pub fn stored(value: Value) -> Value

@@ -1,6 +1,6 @@
 -- What the two calls do, by what is wrong with their arguments.
 use Rattle.std.proofs.Common.{◌≡◌, ℕ, List, [], None, Some, unwrap_or, sym, ap, ◌∙◌}
-use Rattle.wm_base.specs.declared.tree.statement.Arg.{Arg}
+use Rattle.wm_syntax.specs.declared.statement.Arg.{Arg}
 use Rattle.wm_calls.specs.Arguments.{text_given}
 use Rattle.wm_calls.specs.Faults.{argument_fault}
 use Rattle.wm_grammar.specs.declared.procedure.Parameter.TheVariants as parameters

@@ -17,7 +17,6 @@ use crate::merging::{Asked, merge_workspace};
 use crate::refreshing::refresh_workspace;
 use std::alloc::Global;
 use wm_base::Memory;
-use wm_base::tree::statement::Arg;
 use wm_calls::is_true_given;
 use wm_grammar::{Parameter, Procedure};
 use wm_image::Image;
@@ -25,6 +24,7 @@ use wm_plan::given::{bytes_given, fault_of};
 use wm_plan::planned::Planned;
 use wm_plan::refuse::mistyped;
 use wm_plan::session::Session;
+use wm_syntax::statement::Arg;
 
 /// RefreshWorkspace.
 pub fn refresh_call(

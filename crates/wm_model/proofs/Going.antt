@@ -5,7 +5,7 @@ use Rattle.std.specs.Str.{bytes_eq}
 use Rattle.wm_graph.specs.Parts.{parts_of, space_of}
 use Rattle.wm_graph.specs.Rules.{keep_rules}
 use Rattle.wm_print.specs.Texts.{Answer, Fine}
-use Rattle.wm_base.specs.Trees.{Statement}
+use Rattle.wm_syntax.specs.Trees.{Statement}
 use Rattle.wm_spec.specs.declared.record.savepoint.Savepoint.{Savepoint as Saved}
 use Rattle.wm_spec.specs.declared.record.space.Space.{Space}
 use Rattle.wm_spec.specs.declared.record.stored.Stored.{Stored}

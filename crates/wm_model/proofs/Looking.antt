@@ -7,7 +7,7 @@ use Rattle.wm_base.specs.Period.{Span}
 use Rattle.wm_base.specs.declared.columns.Column.{Column}
 use Rattle.wm_base.specs.declared.listing.Listing.{Listing as Source}
 use Rattle.wm_base.specs.declared.row.Row.{Row}
-use Rattle.wm_base.specs.Trees.{Src}
+use Rattle.wm_syntax.specs.Trees.{Src}
 use Rattle.wm_graph.specs.Parts.{parts_of, table_of}
 use Rattle.wm_graph.specs.Rules.{keep_rules}
 use Rattle.wm_spec.specs.declared.record.savepoint.Savepoint.{Savepoint as Record}

@@ -13,7 +13,7 @@ use Rattle.wm_model.specs.Step.{connect, disconnect, empty_period, set_period, s
 use Rattle.wm_model.specs.Planning.{StandsAt, Does, Stay, Open, Close, Set}
 use Rattle.wm_model.specs.Step.Sessions as settings
 use Rattle.wm_model.proofs.Doing.{does_nothing, does_seat}
-use Rattle.wm_base.specs.Trees.{Statement}
+use Rattle.wm_syntax.specs.Trees.{Statement}
 
 -- ---- CONNECT
 

@@ -3,7 +3,7 @@ use Rattle.std.specs.Prelude.{ℕ, ◌≡◌, List, [], ◌∷◌, Option, Some,
 use Rattle.wm_base.specs.Period.{Span}
 use Rattle.wm_base.specs.declared.listing.Listing.{Listing as Source}
 use Rattle.wm_base.specs.declared.row.Row.{Row}
-use Rattle.wm_base.specs.Trees.{Src}
+use Rattle.wm_syntax.specs.Trees.{Src}
 use Rattle.wm_graph.specs.Parts.{Parts}
 use Rattle.wm_spec.specs.declared.record.space.Space.{Space}
 use Rattle.wm_spec.specs.declared.record.table.Table.{Table}

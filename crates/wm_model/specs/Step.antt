@@ -16,7 +16,7 @@ pub mod Calling
 use Rattle.std.specs.Prelude.{ℕ, List, not, if◌then◌else◌, Option, None, Some, Result, Ok, Err}
 use Rattle.std.specs.Str.{is_utf8}
 use Rattle.wm_model.specs.Lines.{fits_line}
-use Rattle.wm_base.specs.Trees.{Line, Connect, Disconnect, At as AtMoment, Run, Statement, Create, Insert, Update, Delete, Select, Call}
+use Rattle.wm_syntax.specs.Trees.{Line, Connect, Disconnect, At as AtMoment, Run, Statement, Create, Insert, Update, Delete, Select, Call}
 use Rattle.wm_grammar.specs.Calls.{procedure_of}
 use Rattle.wm_grammar.specs.Parsed.{Bad, Syntax, Literal, parsed}
 use Rattle.wm_calls.specs.Empty.{has_empty_period}

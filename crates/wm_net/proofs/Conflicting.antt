@@ -15,7 +15,7 @@ use Rattle.wm_net.specs.Groups.{Group, cell, group_order}
 use Rattle.wm_net.specs.Listed.{Stretch, value_at, stretches_of, IsListing}
 use Rattle.wm_net.specs.Places.{last_position}
 use Rattle.wm_net.proofs.Firsting.{listing_first, listing_none}
-use Rattle.wm_net.proofs.Listing.{Fit, value_of, is_listing, listing_is}
+use Rattle.wm_net.proofs.Listing.{Fit, changes_of, value_of, is_listing, listing_is}
 use Rattle.wm_net.proofs.Placing.{touched-drop, past_position, reach-last}
 use Rattle.wm_net.proofs.Stretching.{Steady-none, Steady-two, Cut, Cut-cuts, Cut-left, Cut-right, Steady-told}
 
@@ -140,7 +140,7 @@ conflicts_are s = listing_is same_stamps grouped (all_sides s) (conflict_at s) (
 
 -- and are the only such list: what code that goes key by key owes
 pub conflicts_is : (s : Sides) (xs : List (Group × Stretch Stamps)) → IsListing same_stamps grouped (conflict_at s) xs → xs ≡ conflicts s
-conflicts_is s xs l = is_listing same_stamps grouped (all_sides s) (conflict_at s) xs same_stamps-itself (Fit-conflicts s) l
+conflicts_is s xs l = is_listing same_stamps grouped (all_sides s) (conflict_at s) xs same_stamps-itself (changes_of same_stamps (all_sides s) (conflict_at s) (Fit-conflicts s)) l
 
 -- a conflict asks for no position of an entry: own touches the cell, and the log does from the position on, and from each mark on
 pub in_conflict-is : (s : Sides) (c : Cell) → in_conflict s c ≡ (touched s.own c && (touched (drop s.from s.log) c && (touched (drop (settled_at s.settled c - 1) s.log) c || nat_le (settled_at s.settled c) 0)))

@@ -9,7 +9,7 @@ use Rattle.wm_net.specs.Firsts.{IsFirst, IsFirstOf}
 use Rattle.wm_net.specs.Groups.{Group, cell, group_order, groups, has_group, GroupsAscend}
 use Rattle.wm_net.specs.Listed.{Stretch, value_at, Ordered, IsJoined, listed, stretches_of, listing}
 use Rattle.wm_net.proofs.Grouping.{group_order-equal, greater_less, less_other, groups-ascend}
-use Rattle.wm_net.proofs.Listing.{Fit, value_of, given_none, less_none, nothing, is_listing}
+use Rattle.wm_net.proofs.Listing.{Fit, changes_of, value_of, given_none, less_none, nothing, is_listing}
 use Rattle.wm_net.proofs.Stretching.{le_or_lt, value_before, Holds, Ordered-stretches}
 use Rattle.wm_net.proofs.Unique.{here, past, behind, same_stretch, IsJoined-stretches}
 
@@ -81,7 +81,7 @@ listing_first {A = A} {B = B} same entry es f g s itself fit is = by_member (has
         by_order : (o : Ordering) → group_order h g ≡ o → (has_group g hs ≡ true → slice_get (listed entry F hs) 0 ≡ Some (entry g s))
             → slice_get (listed entry F (h ∷ hs)) 0 ≡ Some (entry g s)
         by_order Less e rest =
-            rw (nothing same es f itself fit h (is.before h e)) (rest (ap (λ (b : Bool). b || has_group g hs) (sym (less_other h g e)) ∙ member))
+            rw (nothing same es f itself (changes_of same es f fit) h (is.before h e)) (rest (ap (λ (b : Bool). b || has_group g hs) (sym (less_other h g e)) ∙ member))
         by_order Equal e rest =
             let one : h ≡ g = group_order-equal h g e in
             ap (λ x. slice_get (map (entry x) (F x) ++ listed entry F hs) 0) one ∙ head (F g) refl (listed entry F hs)
@@ -91,10 +91,10 @@ listing_first {A = A} {B = B} same entry es f g s itself fit is = by_member (has
 
     by_member : (b : Bool) → has_group g (groups es) ≡ b → slice_get (listed entry F (groups es)) 0 ≡ Some (entry g s)
     by_member true e = walk (groups es) (groups-ascend es) e
-    by_member false e = let gone : f (cell g s.from) ≡ None = given_none same es f fit g e s.from in absurd (let it : Some s.value ≡ None = sym held ∙ gone in cc)
+    by_member false e = let gone : f (cell g s.from) ≡ None = given_none es f (changes_of same es f fit) g e s.from in absurd (let it : Some s.value ≡ None = sym held ∙ gone in cc)
 
 -- where a function gives nothing, nothing is listed
 pub listing_none : {A B : Type 0} (same : A → A → Bool) (entry : Group → Stretch A → B) (es : List Entry) (f : Cell → Option A)
     → ((x : A) → same x x ≡ true) → Fit same es f → ((c : Cell) → f c ≡ None) → listing same entry es f ≡ []
 listing_none same entry es f itself fit none =
-    sym (is_listing same entry es f [] itself fit (record { blocks = []; is = refl; ascend = tt; each = tt; others = λ g out t. none (cell g t) }))
+    sym (is_listing same entry es f [] itself (changes_of same es f fit) (record { blocks = []; is = refl; ascend = tt; each = tt; others = λ g out t. none (cell g t) }))

@@ -11,19 +11,25 @@ use Rattle.wm_net.proofs.Grouping.{same_group-is, same_group-itself, group_order
 use Rattle.wm_net.proofs.Stretching.{Right, Ordered-stretches, value_stretches}
 use Rattle.wm_net.proofs.Unique.{IsJoined-stretches, is_stretches}
 
--- what a listing asks of a function: it changes where entries of the group end alone, and the test is right for what it gives
+-- a function of the cell changes where entries of the group end alone
+pub record Changes {A : Type 0} (es : List Entry) (f : Cell → Option A) : Type 0 where
+  pub steady : (g : Group) → Steady (λ t. f (cell g t)) 0 (cuts es g.table g.key)
+
+-- what a listing asks of a function that it is to hold: it changes so, and the test is right for what it gives
 pub record Fit {A : Type 0} (same : A → A → Bool) (es : List Entry) (f : Cell → Option A) : Type 0 where
   pub steady : (g : Group) → Steady (λ t. f (cell g t)) 0 (cuts es g.table g.key)
   pub right : (g : Group) → Right same (λ t. f (cell g t))
 
+pub changes_of : {A : Type 0} (same : A → A → Bool) (es : List Entry) (f : Cell → Option A) → Fit same es f → Changes es f
+changes_of same es f fit = record { steady = fit.steady }
+
 pub value_of : {A : Type 0} (same : A → A → Bool) (es : List Entry) (f : Cell → Option A) → Fit same es f → (g : Group) (t : ℕ) → value_at (stretches_of same es f g) t ≡ f (cell g t)
 value_of same es f fit g t = value_stretches same (λ t. f (cell g t)) 0 (cuts es g.table g.key) (Up-cuts es g.table g.key) (fit.steady g) (fit.right g) t (omega arith)
 
--- so it gives nothing in a group that no entry is of
-pub given_none : {A : Type 0} (same : A → A → Bool) (es : List Entry) (f : Cell → Option A) → Fit same es f → (g : Group) → has_group g (groups es) ≡ false
-    → (t : ℕ) → f (cell g t) ≡ None
-given_none same es f fit g none t =
-    let steady : Steady (λ t. f (cell g t)) 0 [] = subst (λ (cs : List ℕ). Steady (λ t. f (cell g t)) 0 cs) (cuts_none es g none) (fit.steady g) in
+-- where it changes so it gives nothing in a group that no entry is of
+pub given_none : {A : Type 0} (es : List Entry) (f : Cell → Option A) → Changes es f → (g : Group) → has_group g (groups es) ≡ false → (t : ℕ) → f (cell g t) ≡ None
+given_none es f change g none t =
+    let steady : Steady (λ t. f (cell g t)) 0 [] = subst (λ (cs : List ℕ). Steady (λ t. f (cell g t)) 0 cs) (cuts_none es g none) (change.steady g) in
     steady t (omega arith)
 
 -- ---- the groups of a listing
@@ -112,25 +118,25 @@ listed_same {A = A} {B = B} entry F (g ∷ gs) hs up1 up2 same = walk (λ hs up2
 -- ---- any list that goes group by group
 
 -- where a function gives nothing in a group, there is no stretch of it
-pub nothing : {A : Type 0} (same : A → A → Bool) (es : List Entry) (f : Cell → Option A) → ((x : A) → same x x ≡ true) → Fit same es f → (g : Group)
+pub nothing : {A : Type 0} (same : A → A → Bool) (es : List Entry) (f : Cell → Option A) → ((x : A) → same x x ≡ true) → Changes es f → (g : Group)
     → ((t : ℕ) → f (cell g t) ≡ None) → stretches_of same es f g ≡ []
-nothing same es f itself fit g none =
-    sym (is_stretches same (λ t. f (cell g t)) (cuts es g.table g.key) [] itself (Up-cuts es g.table g.key) (fit.steady g) (fit.right g) tt tt (λ t. sym (none t)))
+nothing same es f itself change g none =
+    sym (is_stretches same (λ t. f (cell g t)) (cuts es g.table g.key) [] itself (Up-cuts es g.table g.key) (change.steady g) tt tt (λ t. sym (none t)))
 
-blocks-are : {A B : Type 0} (same : A → A → Bool) (entry : Group → Stretch A → B) (es : List Entry) (f : Cell → Option A) → ((x : A) → same x x ≡ true) → Fit same es f
+blocks-are : {A B : Type 0} (same : A → A → Bool) (entry : Group → Stretch A → B) (es : List Entry) (f : Cell → Option A) → ((x : A) → same x x ≡ true) → Changes es f
     → (bs : List (Block A)) → AreBlocks same f bs → blocks_listed entry bs ≡ listed entry (stretches_of same es f) (groups_of bs)
-blocks-are same entry es f itself fit [] each = refl
-blocks-are {A = A} {B = B} same entry es f itself fit (b ∷ bs) each =
+blocks-are same entry es f itself change [] each = refl
+blocks-are {A = A} {B = B} same entry es f itself change (b ∷ bs) each =
     let g = b.group in
     ap (λ (ss : List (Stretch A)). map (entry b.group) ss ++ blocks_listed entry bs)
-    (is_stretches same (λ t. f (cell b.group t)) (cuts es g.table g.key) b.stretches itself (Up-cuts es g.table g.key) (fit.steady g) (fit.right g) each.0.ordered each.0.joined each.0.holds)
-    ∙ ap (λ (xs : List B). map (entry b.group) (stretches_of same es f b.group) ++ xs) (blocks-are same entry es f itself fit bs each.1)
+    (is_stretches same (λ t. f (cell b.group t)) (cuts es g.table g.key) b.stretches itself (Up-cuts es g.table g.key) (change.steady g) each.0.ordered each.0.joined each.0.holds)
+    ∙ ap (λ (xs : List B). map (entry b.group) (stretches_of same es f b.group) ++ xs) (blocks-are same entry es f itself change bs each.1)
 
 -- any list of groups, ascending, each with stretches that are ordered and joined and hold the function, and it gives nothing elsewhere, is the listing
 pub is_listing : {A B : Type 0} (same : A → A → Bool) (entry : Group → Stretch A → B) (es : List Entry) (f : Cell → Option A) (xs : List B)
-    → ((x : A) → same x x ≡ true) → Fit same es f → IsListing same entry f xs → xs ≡ listing same entry es f
-is_listing {A = A} same entry es f xs itself fit l =
-    l.is ∙ blocks-are same entry es f itself fit l.blocks l.each
+    → ((x : A) → same x x ≡ true) → Changes es f → IsListing same entry f xs → xs ≡ listing same entry es f
+is_listing {A = A} same entry es f xs itself change l =
+    l.is ∙ blocks-are same entry es f itself change l.blocks l.each
     ∙ listed_same entry (stretches_of same es f) (groups_of l.blocks) (groups es) l.ascend (groups-ascend es) both
   where
     both : (g : Group) → (stretches_of same es f g ≡ []) ⊎ (has_group g (groups_of l.blocks) ≡ has_group g (groups es))
@@ -139,19 +145,19 @@ is_listing {A = A} same entry es f xs itself fit l =
         by_test : (a b : Bool) → has_group g (groups_of l.blocks) ≡ a → has_group g (groups es) ≡ b → (stretches_of same es f g ≡ []) ⊎ (a ≡ b)
         by_test true true e h = inr refl
         by_test false false e h = inr refl
-        by_test false true e h = inl (nothing same es f itself fit g (l.others g e))
-        by_test true false e h = inl (nothing same es f itself fit g (given_none same es f fit g h))
+        by_test false true e h = inl (nothing same es f itself change g (l.others g e))
+        by_test true false e h = inl (nothing same es f itself change g (given_none es f change g h))
 
 -- ---- ascending groups whose stretches a function of the group gives
 
-abbrev blocks_of : {A : Type 0} → (Group → List (Stretch A)) → List Group → List (Block A)
+abbrev pub blocks_of : {A : Type 0} → (Group → List (Stretch A)) → List Group → List (Block A)
 blocks_of F gs = map (λ g. record { group = g; stretches = F g }) gs
 
-blocks_of-listed : {A B : Type 0} (entry : Group → Stretch A → B) (F : Group → List (Stretch A)) (gs : List Group) → listed entry F gs ≡ blocks_listed entry (blocks_of F gs)
+pub blocks_of-listed : {A B : Type 0} (entry : Group → Stretch A → B) (F : Group → List (Stretch A)) (gs : List Group) → listed entry F gs ≡ blocks_listed entry (blocks_of F gs)
 blocks_of-listed entry F [] = refl
 blocks_of-listed {B = B} entry F (g ∷ gs) = ap (λ (xs : List B). map (entry g) (F g) ++ xs) (blocks_of-listed entry F gs)
 
-blocks_of-groups : {A : Type 0} (F : Group → List (Stretch A)) (gs : List Group) → groups_of (blocks_of F gs) ≡ gs
+pub blocks_of-groups : {A : Type 0} (F : Group → List (Stretch A)) (gs : List Group) → groups_of (blocks_of F gs) ≡ gs
 blocks_of-groups F [] = refl
 blocks_of-groups F (g ∷ gs) = ap (λ (hs : List Group). g ∷ hs) (blocks_of-groups F gs)
 
@@ -181,9 +187,9 @@ listing_is same entry es f fit =
       joined = IsJoined-stretches same (λ t. f (cell g t)) 0 (cuts es g.table g.key) (Up-cuts es g.table g.key) (fit.steady g) (fit.right g);
       holds = value_of same es f fit g;
     })
-    (given_none same es f fit)
+    (given_none es f (changes_of same es f fit))
 
 -- listings of one function are one, whatever else is cut
 pub listing_same : {A B : Type 0} (same : A → A → Bool) (entry : Group → Stretch A → B) (es fs : List Entry) (f : Cell → Option A)
     → ((x : A) → same x x ≡ true) → Fit same es f → Fit same fs f → listing same entry es f ≡ listing same entry fs f
-listing_same same entry es fs f itself one two = is_listing same entry fs f (listing same entry es f) itself two (listing_is same entry es f one)
+listing_same same entry es fs f itself one two = is_listing same entry fs f (listing same entry es f) itself (changes_of same fs f two) (listing_is same entry es f one)

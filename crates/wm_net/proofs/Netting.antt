@@ -12,7 +12,7 @@ use Rattle.wm_net.specs.Listed.{Stretch, within, value_at, joined, onto, stretch
 use Rattle.wm_net.specs.Nets.{replayed, one_stamp, told_listing, IsToldListing, net, outside, gained_at, gained, IsGained, Stamped}
 use Rattle.wm_net.proofs.Grouping.{same_group-is}
 use Rattle.wm_net.proofs.Stretching.{Right, Steady-two, Cut-cuts, Cut-left, Cut-right, Steady-told}
-use Rattle.wm_net.proofs.Listing.{Fit, value_of, given_none, is_listing, listing_is}
+use Rattle.wm_net.proofs.Listing.{Fit, changes_of, value_of, given_none, is_listing, listing_is}
 use Rattle.wm_net.proofs.Owing.{listing_alike}
 
 -- ---- what a listing holds
@@ -61,7 +61,7 @@ told-listing moment user es f fit c =
   where
     by_test : (b : Bool) → has_group (of_cell c) (groups es) ≡ b → (if b then value_at (stretches_of one_stamp es f (of_cell c)) c.time else None) ≡ f c
     by_test true e = value_of one_stamp es f fit (of_cell c) c.time
-    by_test false e = sym (given_none one_stamp es f fit (of_cell c) e c.time)
+    by_test false e = sym (given_none es f (changes_of one_stamp es f fit) (of_cell c) e c.time)
 
 -- ---- one stamp tells one thing
 
@@ -158,7 +158,7 @@ Stamped-net moment user tells es s = Stamped-listing tells moment user es (told 
 
 -- what code that goes key by key owes for a net list
 pub net_is : (moment : ℕ) (user : List ℕ) (tells : ℕ → Told) (es xs : List Entry) → Stamped tells es → IsToldListing moment user (told es) xs → xs ≡ net moment user es
-net_is moment user tells es xs s l = is_listing one_stamp (replayed moment user) es (told es) xs one_stamp-itself (Fit-net tells es s) l
+net_is moment user tells es xs s l = is_listing one_stamp (replayed moment user) es (told es) xs one_stamp-itself (changes_of one_stamp es (told es) (Fit-net tells es s)) l
 
 -- alike lists have one net list
 pub net_alike : (moment : ℕ) (user : List ℕ) (tells : ℕ → Told) (xs ys : List Entry) → Stamped tells xs → Stamped tells ys → Alike xs ys → net moment user xs ≡ net moment user ys
@@ -206,7 +206,7 @@ Stamped-gained moment user tells own pending s =
 pub gained_listed : (moment : ℕ) (user : List ℕ) (tells : ℕ → Told) (own pending xs : List Entry) → Stamped tells pending → IsToldListing moment user (gained_at own pending) xs
     → xs ≡ gained moment user own pending
 gained_listed moment user tells own pending xs s l =
-    is_listing one_stamp (replayed moment user) (own ++ pending) (gained_at own pending) xs one_stamp-itself (Fit-gained tells own pending s) l
+    is_listing one_stamp (replayed moment user) (own ++ pending) (gained_at own pending) xs one_stamp-itself (changes_of one_stamp (own ++ pending) (gained_at own pending) (Fit-gained tells own pending s)) l
 
 -- it is the part of the net list of what is pending on cells that own entries do not touch
 pub gained_of_net : (moment : ℕ) (user : List ℕ) (tells : ℕ → Told) (own pending : List Entry) → Stamped tells pending

@@ -11,8 +11,8 @@ use Rattle.wm_net.specs.Groups.{Group, GroupsAscend, Precedes, cell, has_group, 
 use Rattle.wm_net.specs.Listed.{AreBlocks, Block, IsListing, Ordered, Stretch, blocks_listed, groups_of, value_at}
 use Rattle.wm_net.proofs.Conflicting.{Fit-conflicts, conflicts_are, same_stamps-itself}
 use Rattle.wm_net.proofs.Grouping.{same_group-is}
-use Rattle.wm_net.proofs.Listing.{Fit, is_listing}
-use Rattle.wm_net.proofs.Stretching.{Right, Steady-none}
+use Rattle.wm_net.proofs.Listing.{Changes, changes_of, is_listing}
+use Rattle.wm_net.proofs.Stretching.{Steady-none}
 use Rattle.wm_net.proofs.Unique.{here, past}
 
 -- ---- the blocks of a table
@@ -107,30 +107,23 @@ kept_lists same table f xs l = record {
     by_test g t none false e = outside table f g t e
 
 -- what gives nothing in other tables changes where the function does
-Fit-in : {A : Type 0} (same : A → A → Bool) (es : List Entry) (table : ℕ) (f : Cell → Option A) → Fit same es f → Fit same es (in_table table f)
-Fit-in {A = A} same es table f fit = record {
-  steady = λ g. steady g (g.table == table);
-  right = λ g. right g (g.table == table);
-}
+Changes-in : {A : Type 0} (es : List Entry) (table : ℕ) (f : Cell → Option A) → Changes es f → Changes es (in_table table f)
+Changes-in {A = A} es table f change = record { steady = λ g. steady g (g.table == table) }
   where
     steady : (g : Group) (b : Bool) → Steady (λ t. cond b (f (cell g t)) None) 0 (cuts es g.table g.key)
-    steady g true = fit.steady g
+    steady g true = change.steady g
     steady g false = Steady-none None 0 (cuts es g.table g.key) refl
-
-    right : (g : Group) (b : Bool) → Right same (λ t. cond b (f (cell g t)) None)
-    right g true = fit.right g
-    right g false = record { right = λ t u x y e h k. absurd (none-some x e) }
 
 -- ---- the conflicts of a table
 
 -- they are the only listing of conflicts there: what code owes that goes key by key of the table
 pub conflicts_in_is : (table : ℕ) (s : Sides) (xs : List (Group × Stretch Stamps)) → IsListing same_stamps grouped (in_table table (conflict_at s)) xs → xs ≡ conflicts_in table s
 conflicts_in_is table s xs l =
-    is_listing same_stamps grouped (all_sides s) (in_table table (conflict_at s)) xs same_stamps-itself fit l
-    ∙ sym (is_listing same_stamps grouped (all_sides s) (in_table table (conflict_at s)) (conflicts_in table s) same_stamps-itself fit (kept_lists same_stamps table (conflict_at s) (conflicts s) (conflicts_are s)))
+    is_listing same_stamps grouped (all_sides s) (in_table table (conflict_at s)) xs same_stamps-itself change l
+    ∙ sym (is_listing same_stamps grouped (all_sides s) (in_table table (conflict_at s)) (conflicts_in table s) same_stamps-itself change (kept_lists same_stamps table (conflict_at s) (conflicts s) (conflicts_are s)))
   where
-    fit : Fit same_stamps (all_sides s) (in_table table (conflict_at s))
-    fit = Fit-in same_stamps (all_sides s) table (conflict_at s) (Fit-conflicts s)
+    change : Changes (all_sides s) (in_table table (conflict_at s))
+    change = Changes-in (all_sides s) table (conflict_at s) (changes_of same_stamps (all_sides s) (conflict_at s) (Fit-conflicts s))
 
 -- such a listing they are
 pub conflicts_in_are : (table : ℕ) (s : Sides) → IsListing same_stamps grouped (in_table table (conflict_at s)) (conflicts_in table s)

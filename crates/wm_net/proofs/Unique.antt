@@ -1,10 +1,13 @@
 -- Stretches that are ordered and joined are told by what they hold at each moment.
-use Rattle.std.proofs.Common.{◌≡◌, ℕ, ◌<◌, ◌≤◌, ◌⊎◌, inl, inr, List, [], ◌∷◌, Option, None, Some, Bool, true, ◌&&◌, ◌==◌, refl, sym, ap, ◌∙◌, arith, eq-eqb, ⊎_elim}
+use Rattle.std.proofs.Common.{◌≡◌, ℕ, ◌<◌, ◌≤◌, ◌⊎◌, inl, inr, List, [], ◌∷◌, Option, None, Some, Bool, true, ◌&&◌, ◌==◌, refl, sym, ap, ◌∙◌, arith, eq-eqb, subst}
 use Rattle.std.proofs.lemmas.Bool.{and_parts}
+use Rattle.std.proofs.lemmas.Bool.Decides.{nat_tests}
+use Rattle.std.specs.Bool.{then_some}
+use Rattle.std.specs.Option.{option_or}
 use Rattle.wm_base.proofs.Plain.{option_or-none}
 use Rattle.wm_spec.proofs.Stretches.{Up, Steady, by_test}
-use Rattle.wm_net.specs.Listed.{Stretch, value_at, joined, onto, stretches, Ordered, IsApart, IsJoined}
-use Rattle.wm_net.proofs.Stretching.{le_or_lt, within_is, within_not_after, value_before, HeadSame, Right, head_given, Ordered-stretches, value_stretches}
+use Rattle.wm_net.specs.Listed.{Stretch, within, value_at, joined, onto, stretches, Ordered, IsApart, IsJoined}
+use Rattle.wm_net.proofs.Stretching.{Holds, le_or_lt, within_is, within_not_after, value_before, HeadSame, Right, head_given, Ordered-stretches, value_stretches}
 
 -- what the first of some stretches holds
 pub here : {A : Type 0} (p : Stretch A) (ps : List (Stretch A)) (t : ℕ) → Ordered p.till ps → p.from ≤ t → t < p.till → value_at (p ∷ ps) t ≡ Some p.value
@@ -33,68 +36,85 @@ behind test p (q ∷ ps) itself o apart h = by_place (le_or_lt q.from p.till)
 pub same_stretch : {A : Type 0} (p q : Stretch A) → p.from ≡ q.from → p.till ≡ q.till → p.value ≡ q.value → p ≡ q
 same_stretch p q e f g = λ i. record { from = e i; till = f i; value = g i }
 
--- ---- two lists that hold the same
+-- ---- the stretches of a function are told by what it gives
 
--- one does not begin before the other
-from_least : {A : Type 0} (p q : Stretch A) (ps qs : List (Stretch A)) → p.from < p.till → Ordered p.till ps → q.from < q.till → Ordered q.till qs
-    → ((t : ℕ) → value_at (p ∷ ps) t ≡ value_at (q ∷ qs) t) → q.from ≤ p.from
-from_least p q ps qs real o lasts r same = by_place (le_or_lt q.from p.from)
+-- where nothing is given from an instant on, there is no stretch
+none_left : {A : Type 0} (f : ℕ → Option A) (low : ℕ) (ss : List (Stretch A)) → Ordered low ss → Holds low ss f → ((t : ℕ) → low ≤ t → f t ≡ None) → ss ≡ []
+none_left f low [] o h none = refl
+none_left f low (s ∷ ss) o h none = absurd (let it = sym (here s ss s.from o.2 (omega arith) o.1) ∙ h s.from o.0 ∙ none s.from o.0 in cc)
+
+-- where nothing is given up to an instant, they begin behind it
+later : {A : Type 0} (f : ℕ → Option A) (low high : ℕ) (ss : List (Stretch A)) → Ordered low ss → Holds low ss f → ((t : ℕ) → low ≤ t → t < high → f t ≡ None) → Ordered high ss
+later f low high [] o h none = tt
+later f low high (s ∷ ss) o h none = (by_place (le_or_lt high s.from), o.1, o.2)
   where
-    by_place : (q.from ≤ p.from) ⊎ (p.from < q.from) → q.from ≤ p.from
+    by_place : (high ≤ s.from) ⊎ (s.from < high) → high ≤ s.from
     by_place (inl le) = le
-    by_place (inr lt) =
-        let held : value_at (p ∷ ps) p.from ≡ Some p.value = here p ps p.from o (omega arith) real in
-        let gone : value_at (q ∷ qs) p.from ≡ None = value_before q.from (q ∷ qs) p.from (omega arith, lasts, r) lt in
-        let it = same p.from in
-        absurd (cc)
+    by_place (inr lt) = absurd (let it = sym (here s ss s.from o.2 (omega arith) o.1) ∙ h s.from o.0 ∙ none s.from o.0 lt in cc)
 
--- nor does it end before it, where both begin at once
-till_most : {A : Type 0} (test : A → A → Bool) (p q : Stretch A) (ps qs : List (Stretch A)) → ((x : A) → test x x ≡ true) → Ordered p.till ps → IsApart test p ps → Ordered q.till qs
-    → p.from ≡ q.from → p.value ≡ q.value → p.from < p.till → ((t : ℕ) → value_at (p ∷ ps) t ≡ value_at (q ∷ qs) t) → q.till ≤ p.till
-till_most test p q ps qs itself o apart r e v real same = by_place (le_or_lt q.till p.till)
+-- a stretch that begins elsewhere stays apart from what follows
+apart_from : {A : Type 0} (test : A → A → Bool) (p : Stretch A) (from : ℕ) (ss : List (Stretch A)) → IsApart test p ss → IsApart test (record { from = from; till = p.till; value = p.value }) ss
+apart_from test p from [] apart = tt
+apart_from test p from (q ∷ ss) apart = apart
+
+-- a stretch before others that it is apart from
+joined_apart : {A : Type 0} (test : A → A → Bool) (low : ℕ) (p : Stretch A) (ss : List (Stretch A)) → p.from ≡ low → IsApart test p ss → joined test low p.till p.value ss ≡ p ∷ ss
+joined_apart test low p [] e apart = ap (λ q. q ∷ []) (same_stretch (record { from = low; till = p.till; value = p.value }) p (sym e) refl refl)
+joined_apart test low p (q ∷ ss) e apart = rw apart (ap (λ s. s ∷ q ∷ ss) (same_stretch (record { from = low; till = p.till; value = p.value }) p (sym e) refl refl))
+
+-- and before its own rest
+joined_own : {A : Type 0} (test : A → A → Bool) (low middle : ℕ) (p : Stretch A) (ss : List (Stretch A)) → p.from ≡ low → test p.value p.value ≡ true
+    → joined test low middle p.value (record { from = middle; till = p.till; value = p.value } ∷ ss) ≡ p ∷ ss
+joined_own test low middle p ss e itself = rw (eq-eqb middle middle refl, itself) (ap (λ s. s ∷ ss) (same_stretch (record { from = low; till = p.till; value = p.value }) p (sym e) refl refl))
+
+within_later : (from middle till t : ℕ) → from ≤ middle → middle ≤ t → within middle till t ≡ within from till t
+within_later from middle till t le after = grind (arith, nat_tests)
+
+-- the stretches from a cut on before what is given up to it
+with_first : {A : Type 0} (test : A → A → Bool) (f : ℕ → Option A) (low a : ℕ) (more : List (Stretch A)) → ((x : A) → test x x ≡ true) → low < a → ((t : ℕ) → low ≤ t → t < a → f t ≡ f low)
+    → ((xs : List (Stretch A)) → Ordered a xs → IsJoined test xs → Holds a xs f → more ≡ xs)
+    → (ss : List (Stretch A)) → Ordered low ss → IsJoined test ss → Holds low ss f → onto test low a (f low) more ≡ ss
+with_first {A = A} test f low a more itself up steady rest ss o j h = by_value (f low) refl
   where
-    by_place : (q.till ≤ p.till) ⊎ (p.till < q.till) → q.till ≤ p.till
-    by_place (inl le) = le
-    by_place (inr lt) =
-        let held : value_at (q ∷ qs) p.till ≡ Some q.value = here q qs p.till r (omega (arith, e, real)) lt in
-        absurd (behind test p ps itself o apart (sym (past p ps p.till (omega arith)) ∙ same p.till ∙ held ∙ ap (λ x. Some x) (sym v)))
+    first : (x : A) (xs : List (Stretch A)) → f low ≡ Some x → Ordered low xs → IsJoined test xs → Holds low xs f → joined test low a x more ≡ xs
+    first x [] e o j h = absurd (let it = h low (omega arith) ∙ e in cc)
+    first x (p ∷ ps) e o j h = by_from (le_or_lt p.from low)
+      where
+        by_end : p.from ≡ low → x ≡ p.value → a ≤ p.till → (p.till ≤ a) ⊎ (a < p.till) → joined test low a x more ≡ p ∷ ps
+        by_end begins is past_a (inl le) =
+            let ends : a ≡ p.till = omega (arith, past_a, le) in
+            let own : more ≡ ps = rest ps (subst (λ n. Ordered n ps) (sym ends) o.2) j.1 (λ t le2. sym (past p ps t (omega (arith, ends, le2))) ∙ h t (omega (arith, up, le2))) in
+            rw (own, ends, is) (joined_apart test low p ps begins j.0)
+        by_end begins is past_a (inr lt) =
+            let own : more ≡ record { from = a; till = p.till; value = p.value } ∷ ps =
+            rest (record { from = a; till = p.till; value = p.value } ∷ ps) (omega arith, lt, o.2) (apart_from test p a ps j.0, j.1)
+            (λ t le2. ap (λ (b : Bool). option_or (value_at ps t) (then_some b p.value)) (within_later p.from a p.till t (omega (arith, begins, up)) le2) ∙ h t (omega (arith, up, le2))) in
+            rw (own, is) (joined_own test low a p ps begins (itself p.value))
 
--- and behind the first of each they hold the same
-rest_same : {A : Type 0} (p q : Stretch A) (ps qs : List (Stretch A)) → Ordered p.till ps → Ordered q.till qs → p.till ≡ q.till
-    → ((t : ℕ) → value_at (p ∷ ps) t ≡ value_at (q ∷ qs) t) → (t : ℕ) → value_at ps t ≡ value_at qs t
-rest_same p q ps qs o r e same t =
-    ⊎_elim
-    (λ le. sym (past p ps t le) ∙ same t ∙ past q qs t (omega (arith, le, e)))
-    (λ lt. value_before p.till ps t o lt ∙ sym (value_before q.till qs t r (omega (arith, lt, e))))
-    (le_or_lt p.till t)
+        by_till : p.from ≡ low → x ≡ p.value → (a ≤ p.till) ⊎ (p.till < a) → joined test low a x more ≡ p ∷ ps
+        by_till begins is (inl le) = by_end begins is le (le_or_lt p.till a)
+        by_till begins is (inr lt) =
+            let at : low ≤ p.till = omega (arith, begins, o.1) in
+            absurd (behind test p ps itself o.2 j.0 (sym (past p ps p.till (omega arith)) ∙ h p.till at ∙ steady p.till at lt ∙ e ∙ ap (λ y. Some y) is))
 
--- two lists that are ordered and joined, and hold the same at each moment, are one
-pub unique : {A : Type 0} (test : A → A → Bool) (low : ℕ) (ps qs : List (Stretch A)) → ((x : A) → test x x ≡ true) → Ordered low ps → Ordered low qs
-    → IsJoined test ps → IsJoined test qs
-    → ((t : ℕ) → value_at ps t ≡ value_at qs t) → ps ≡ qs
-unique test low [] [] itself o r j k same = refl
-unique test low (p ∷ ps) [] itself o r j k same =
-    let held : value_at (p ∷ ps) p.from ≡ Some p.value = here p ps p.from o.2 (omega arith) o.1 in
-    let it = same p.from in
-    absurd (cc)
-unique test low [] (q ∷ qs) itself o r j k same =
-    let held : value_at (q ∷ qs) q.from ≡ Some q.value = here q qs q.from r.2 (omega arith) r.1 in
-    let it = same q.from in
-    absurd (cc)
-unique test low (p ∷ ps) (q ∷ qs) itself o r j k same =
-    let le : q.from ≤ p.from = from_least p q ps qs o.1 o.2 r.1 r.2 same in
-    let ge : p.from ≤ q.from = from_least q p qs ps r.1 r.2 o.1 o.2 (λ t. sym (same t)) in
-    let from : p.from ≡ q.from = omega (arith, le, ge) in
-    let held : value_at (p ∷ ps) p.from ≡ Some p.value = here p ps p.from o.2 (omega arith) o.1 in
-    let holds : value_at (q ∷ qs) p.from ≡ Some q.value = here q qs p.from r.2 le (omega (arith, from, r.1)) in
-    let it = same p.from in
-    let value : p.value ≡ q.value = cc in
-    let least : q.till ≤ p.till = till_most test p q ps qs itself o.2 j.0 r.2 from value o.1 same in
-    let most : p.till ≤ q.till = till_most test q p qs ps itself r.2 k.0 o.2 (sym from) (sym value) r.1 (λ t. sym (same t)) in
-    let till : p.till ≡ q.till = omega (arith, least, most) in
-    let rest : ps ≡ qs = unique test p.till ps qs itself o.2 (rw till r.2) j.1 k.1 (rest_same p q ps qs o.2 r.2 till same) in
-    let first : p ≡ q = same_stretch p q from till value in
-    cc
+        by_from : (p.from ≤ low) ⊎ (low < p.from) → joined test low a x more ≡ p ∷ ps
+        by_from (inl le) =
+            let begins : p.from ≡ low = omega (arith, le, o.0) in
+            let same : Some x ≡ Some p.value = sym e ∙ sym (h low (omega arith)) ∙ here p ps low o.2 le (omega (arith, begins, o.1)) in
+            let is : x ≡ p.value = cc in
+            by_till begins is (le_or_lt a p.till)
+        by_from (inr lt) = absurd (let it = sym (value_before p.from (p ∷ ps) low (omega arith, o.1, o.2) lt) ∙ h low (omega arith) ∙ e in cc)
+
+    by_value : (o2 : Option A) → f low ≡ o2 → onto test low a (f low) more ≡ ss
+    by_value None e = rw e (rest ss (later f low a ss o h (λ t le lt. steady t le lt ∙ e)) j (λ t le. h t (omega (arith, up, le))))
+    by_value (Some x) e = rw e (first x ss e o j h)
+
+-- stretches that are ordered and joined and hold what a function gives are its stretches
+stretches_are : {A : Type 0} (test : A → A → Bool) (f : ℕ → Option A) (low : ℕ) (cs : List ℕ) (ss : List (Stretch A)) → ((x : A) → test x x ≡ true) → Up low cs → Steady f low cs
+    → Ordered low ss → IsJoined test ss → Holds low ss f → stretches test f low cs ≡ ss
+stretches_are test f low [] ss itself u s o j h = sym (none_left f low ss o h s)
+stretches_are test f low (a ∷ cs) ss itself u s o j h =
+    with_first test f low a (stretches test f a cs) itself u.0 s.0 (λ xs. stretches_are test f a cs xs itself u.1 s.1) ss o j h
 
 -- ---- the stretches of a function are so
 
@@ -125,8 +145,8 @@ IsJoined-stretches test f low (a ∷ cs) u s e =
     (λ x g. head_given a (stretches test f a cs) f test low x (Ordered-stretches test f a cs u.1) (value_stretches test f a cs u.1 s.1 e) e g)
     (IsJoined-stretches test f a cs u.1 s.1 e)
 
--- what code owes in a key: stretches that are ordered and joined and hold what the function gives are its stretches, whatever is cut
-pub is_stretches : {A : Type 0} (test : A → A → Bool) (f : ℕ → Option A) (cs : List ℕ) (ps : List (Stretch A)) → ((x : A) → test x x ≡ true) → Up 0 cs → Steady f 0 cs → Right test f
+-- what code owes in a key: stretches that are ordered and joined and hold what the function gives are its stretches, whatever is cut, and
+-- whatever else the test takes for the same
+pub is_stretches : {A : Type 0} (test : A → A → Bool) (f : ℕ → Option A) (cs : List ℕ) (ps : List (Stretch A)) → ((x : A) → test x x ≡ true) → Up 0 cs → Steady f 0 cs
     → Ordered 0 ps → IsJoined test ps → ((t : ℕ) → value_at ps t ≡ f t) → ps ≡ stretches test f 0 cs
-is_stretches test f cs ps r u s e o j h =
-    unique test 0 ps (stretches test f 0 cs) r o (Ordered-stretches test f 0 cs u) j (IsJoined-stretches test f 0 cs u s e) (λ t. h t ∙ sym (value_stretches test f 0 cs u s e t (omega arith)))
+is_stretches test f cs ps itself u s o j h = sym (stretches_are test f 0 cs ps itself u s o j (λ t le. h t))

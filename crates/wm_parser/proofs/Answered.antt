@@ -1,8 +1,8 @@
 -- The answer to a line is the one that its symbols and its literals give.
 use Rattle.std.proofs.Common.{◌≡◌, ℕ, List, refl, sym, ap, subst, ◌∙◌, Option, Some, None, Result, Ok, Err}
-use Rattle.wm_base.specs.declared.tree.line.Line.{Line as LineNode}
-use Rattle.wm_base.specs.Views.{line_view}
-use Rattle.wm_base.specs.Trees.{Line}
+use Rattle.wm_syntax.specs.declared.line.Line.{Line as LineNode}
+use Rattle.wm_syntax.specs.Views.{line_view}
+use Rattle.wm_syntax.specs.Trees.{Line}
 use Rattle.wm_grammar.specs.Scanned.{symbols_of}
 use Rattle.wm_grammar.specs.Faults.{all_of}
 use Rattle.wm_grammar.specs.StatementReaders.{line_at}

@@ -2,9 +2,9 @@
 use Rattle.std.proofs.Common.{◌≡◌, ℕ, true, false, List, [], ◌∷◌, refl, sym, ap, subst, ◌∙◌, inl, inr, Option, Some, None, Result, Ok, Err}
 use Rattle.std.proofs.lemmas.Option.{same_Some}
 use Rattle.std.specs.Prelude.{MatchResult, IfOk, IfErr}
-use Rattle.wm_base.specs.declared.tree.line.Line.{Line as LineNode}
-use Rattle.wm_base.specs.Views.{line_view}
-use Rattle.wm_base.specs.Trees.{Line}
+use Rattle.wm_syntax.specs.declared.line.Line.{Line as LineNode}
+use Rattle.wm_syntax.specs.Views.{line_view}
+use Rattle.wm_syntax.specs.Trees.{Line}
 use Rattle.wm_grammar.specs.Symbols.{Symbol, left_of}
 use Rattle.wm_grammar.specs.Scanned.{symbols_of}
 use Rattle.wm_grammar.specs.Faults.{Fault, ended, all_of}

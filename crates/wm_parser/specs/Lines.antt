@@ -1,7 +1,7 @@
 -- What reads the ends of lines, and those that begin with CONNECT, DISCONNECT or AT.
 use Rattle.std.specs.Prelude.{ℕ, Bool, true, false, List, [], ◌∷◌, Option, Some, None}
-use Rattle.wm_base.specs.Trees.{Line}
-use Rattle.wm_base.specs.Trees as trees
+use Rattle.wm_syntax.specs.Trees.{Line}
+use Rattle.wm_syntax.specs.Trees as trees
 use Rattle.wm_grammar.specs.Sorts as sorts
 use Rattle.wm_grammar.specs.Reading.{Reader, gives_at, mark_at, ◌>>=◌, choose_at, optional_at}
 use Rattle.wm_grammar.specs.OperandReaders.{id_at, word_at, instant_at}

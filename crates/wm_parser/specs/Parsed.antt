@@ -1,8 +1,8 @@
 -- That an answer of the parser is what the line says.
 use Rattle.std.specs.Prelude.{◌≡◌, Result, Ok, Err}
-use Rattle.wm_base.specs.declared.tree.line.Line.{Line as LineNode}
-use Rattle.wm_base.specs.Trees.{Line}
-use Rattle.wm_base.specs.Views.{line_view}
+use Rattle.wm_syntax.specs.declared.line.Line.{Line as LineNode}
+use Rattle.wm_syntax.specs.Trees.{Line}
+use Rattle.wm_syntax.specs.Views.{line_view}
 use Rattle.wm_parser.specs.declared.fault.ParseFault.{ParseFault}
 use Rattle.wm_parser.specs.declared.fault.ParseFault.TheVariants as faults
 use Rattle.wm_grammar.specs.Parsed.{Bad, Syntax, Literal}

@@ -1,7 +1,7 @@
 -- What the parser says of a whole line.
 use Rattle.std.specs.Prelude.{◌≡◌, ◌⊎◌, ℕ, List, Option, Some, None, Result, Ok, Err}
-use Rattle.wm_base.specs.declared.tree.line.Line.{Line as LineNode}
-use Rattle.wm_base.specs.Trees.{Line}
+use Rattle.wm_syntax.specs.declared.line.Line.{Line as LineNode}
+use Rattle.wm_syntax.specs.Trees.{Line}
 use Rattle.wm_grammar.specs.Scanned.{symbols_of}
 use Rattle.wm_grammar.specs.Faults.{Fault}
 use Rattle.wm_grammar.specs.Statements.{line}

@@ -1,5 +1,5 @@
 ghost use Rattle.std.specs.Prelude.{◌≡◌, ◌<◌, ◌^◌, List, length, Ok};
-ghost use Rattle.wm_base.specs.Views.{statement_view, line_view};
+ghost use Rattle.wm_syntax.specs.Views.{statement_view, line_view};
 ghost use Rattle.wm_grammar.specs.Scanned.{symbols_of};
 ghost use Rattle.wm_grammar.specs.Faults.{ended, all_of};
 ghost use Rattle.wm_grammar.specs.StatementReaders.{statement_at, run_at, line_at};
@@ -8,13 +8,13 @@ ghost use Rattle.wm_parser.specs.Lines.{semicolon_at, some_if, names_at, connect
 
 use std::alloc::Global;
 use wm_base::Name;
-use wm_base::tree::line::Line;
-use wm_base::tree::query::Query;
-use wm_base::tree::statement::Statement;
 use wm_call_lines::call;
 use wm_grammar::Sort;
 use wm_query::query;
 use wm_statements::{create, delete, insert, update};
+use wm_syntax::line::Line;
+use wm_syntax::query::Query;
+use wm_syntax::statement::Statement;
 use wm_terms::cursor::Cursor;
 use wm_terms::error::ParseError;
 use wm_terms::operands::instant;

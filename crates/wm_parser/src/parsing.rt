@@ -1,6 +1,6 @@
 ghost use Rattle.std.specs.Prelude.{◌≡◌, ℕ, ◌≤◌, List, length, IfOk, IfErr, MatchResult, None};
-ghost use Rattle.wm_base.specs.Trees.{Line as Tree};
-ghost use Rattle.wm_base.specs.Views.{line_view};
+ghost use Rattle.wm_syntax.specs.Trees.{Line as Tree};
+ghost use Rattle.wm_syntax.specs.Views.{line_view};
 ghost use Rattle.wm_grammar.specs.Scanned.{symbols_of};
 ghost use Rattle.wm_grammar.specs.Literals.{bad_literal};
 ghost use Rattle.wm_parser.specs.Parsed.{Gives};
@@ -11,8 +11,8 @@ ghost use Rattle.wm_parser.specs.Tokens.{AreOfTokens};
 use crate::fault::ParseFault;
 use crate::lines::{discard, line_in};
 use std::alloc::Global;
-use wm_base::tree::line::Line;
 use wm_literals::bad_literal;
+use wm_syntax::line::Line;
 use wm_terms::error::ParseError;
 
 /// The column, from 1, of a symbol from which so many bytes of the line are left.

@@ -5,7 +5,7 @@ use Rattle.std.specs.Option.{option_or}
 use Rattle.wm_graph.specs.Parts.{Parts, version_of}
 use Rattle.wm_graph.specs.Rules.{keep_rules}
 use Rattle.wm_records.proofs.Paths.{ruled, path_goes_on, path_ends}
-use Rattle.wm_image.specs.Shown.{along}
+use Rattle.wm_version_rows.specs.Laying.{along}
 use Rattle.wm_period.specs.Pieces.{Held}
 use Rattle.wm_spec.specs.Lists.{Cell}
 use Rattle.wm_spec.specs.declared.record.piece.PieceRecord.{PieceRecord}

@@ -19,8 +19,9 @@ use Rattle.wm_period.specs.Pieces.{Between, Held, held_at}
 use Rattle.wm_spec.specs.Lists.{Cell}
 use Rattle.wm_spec.specs.declared.record.space.Space.{Space}
 use Rattle.wm_state.specs.Copied.{HoldsKey}
+use Rattle.wm_state.specs.Listing.{standing}
 use Rattle.wm_state.specs.Standing.{seen}
-use Rattle.wm_telling.specs.Telling.{AreOwn, IsFirstClash, clash_held, is_pending, is_unsettled, own_held, standing, stamps_of}
+use Rattle.wm_telling.specs.Telling.{AreOwn, IsFirstClash, clash_held, is_pending, is_unsettled, own_held, stamps_of}
 use Rattle.wm_pending.proofs.Blocks.{at_group}
 use Rattle.wm_pending.proofs.Chaining.{first_alike}
 use Rattle.wm_pending.proofs.Looking.{ascend_at, groups_own}

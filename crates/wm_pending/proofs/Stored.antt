@@ -14,7 +14,7 @@ use Rattle.wm_graph.specs.Parts.{Parts, parts_of, as_piece, row_of, table_of, ve
 use Rattle.wm_graph.specs.Rules.{are_cells, collide, differ, is_key_of, is_piece, is_row_at, keep_rules}
 use Rattle.wm_index.proofs.Finding.{Tests, all_of, filter-kind}
 use Rattle.wm_image.proofs.Lists.{taken-with}
-use Rattle.wm_image.proofs.Walking.{stored_at-sought}
+use Rattle.wm_image.proofs.Keyed.{stored_at-sought}
 use Rattle.wm_image.specs.Shown.{first_held}
 use Rattle.wm_index.specs.Kinds.{kind_at}
 use Rattle.wm_index.specs.Sought.{PieceAt, PiecesIn, ids_with, is_sought}

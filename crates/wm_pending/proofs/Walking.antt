@@ -11,7 +11,7 @@ use Rattle.wm_net.specs.Conflicts.{Stamps, same_stamps}
 use Rattle.wm_net.specs.Listed.{Stretch}
 use Rattle.wm_period.proofs.Order.{held_at-past}
 use Rattle.wm_period.specs.Pieces.{Held, held_at}
-use Rattle.wm_telling.specs.Telling.{standing}
+use Rattle.wm_state.specs.Listing.{standing}
 use Rattle.wm_pending.specs.Fronts.{HoldsNext, IsLeft}
 use Rattle.wm_pending.specs.Sides.{contest_at, stamps_at}
 use Rattle.wm_pending.specs.Walks.{BeginsAt, GoesTo, IsNext, IsReady, left_in}

@@ -7,8 +7,8 @@ use Rattle.wm_net.specs.Conflicts.{Stamps}
 use Rattle.wm_net.specs.Groups.{Group, cell}
 use Rattle.wm_period.specs.Pieces.{held_at}
 use Rattle.wm_spec.specs.declared.record.space.Space.{Space}
+use Rattle.wm_state.specs.Listing.{standing}
 use Rattle.wm_state.specs.Standing.{latest, seen}
-use Rattle.wm_telling.specs.Telling.{standing}
 use Rattle.wm_pending.specs.Lookups.{group_own}
 use Rattle.wm_pending.specs.Settled.{is_settled}
 use Rattle.wm_pending.specs.Touched.{is_touched, marks_since, since_of}

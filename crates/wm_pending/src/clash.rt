@@ -24,6 +24,7 @@ use wm_base::{Key, Memory, Period};
 use wm_image::Image;
 use wm_period::Pieces;
 use wm_spec::record::Space;
+use wm_version_rows::laying::shown;
 
 /// A stretch of conflict: a key of a table, and the period over which base, parent and workspace each hold one row or
 /// none.
@@ -91,9 +92,9 @@ fn sides_of(alloc: Global, image: &Image, asked: Asked, own: &OwnKey) -> Result<
             child: Pieces::new(alloc),
         });
     }
-    let base = image.shown(alloc, asked.base, own.table, &own.key)?;
-    let parent = image.shown(alloc, asked.parent, own.table, &own.key)?;
-    let child = image.shown(alloc, asked.child, own.table, &own.key)?;
+    let base = shown(alloc, image, asked.base, own.table, &own.key)?;
+    let parent = shown(alloc, image, asked.parent, own.table, &own.key)?;
+    let child = shown(alloc, image, asked.child, own.table, &own.key)?;
     Ok(Sides {
         contested,
         base,

@@ -5,7 +5,7 @@ ghost use Rattle.std.specs.Option.{option_and_then, option_map};
 ghost use Rattle.wm_base.specs.declared.instant.TheConstants.{END};
 ghost use Rattle.wm_pending.specs.Fronts.{HoldsNext, IsAhead, IsLeft};
 ghost use Rattle.wm_period.specs.Pieces.{Between, held, held_at};
-ghost use Rattle.wm_telling.specs.Telling.{standing};
+ghost use Rattle.wm_state.specs.Listing.{standing};
 
 use wm_base::Instant;
 use wm_period::Piece;

@@ -24,6 +24,7 @@ use wm_image::Image;
 use wm_period::{Piece, Pieces};
 use wm_spec::record::Space;
 use wm_state::edit::NewEntry;
+use wm_version_rows::laying::shown;
 
 /// The order of a key of own pieces and another key.
 fn order_of(own: &OwnKey, table: u16, key: &Key) -> Ordering
@@ -70,7 +71,7 @@ fn gained_pieces(
     ensures joined { IfOk result (λ pieces. IsJoined pieces) }
     ensures holds { IfOk result (λ pieces. (t : ℕ) → t < END → held_at pieces t ≡ (if is_some (held_at own.now t) then None else (if is_touched (parts_of image.now).touches since (record { table = table; key = key.now; time = t }) then seen (parts_of image.now) version (record { table = table; key = key.now; time = t }) else None))) }
 {
-    let mut pieces = image.shown(alloc, version, table, key)?;
+    let mut pieces = shown(alloc, image, version, table, key)?;
     erase_untouched(alloc, image, &mut pieces, since, table, key)?;
     erase_all(alloc, &mut pieces, own)?;
     pieces.join_same_stamp();

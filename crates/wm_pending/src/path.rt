@@ -9,9 +9,9 @@ ghost use Rattle.wm_telling.specs.Telling.{own_held};
 use std::alloc::Global;
 use wm_base::{Key, Memory};
 use wm_image::Image;
-use wm_image::laying::lay_version;
 use wm_period::Pieces;
 use wm_spec::record::{Space, Version};
+use wm_version_rows::laying::lay_version;
 
 /// The version of a number, or None where that is a base.
 pub fn version_above(image: &Image, base: u64, number: u64) -> Option<Version>

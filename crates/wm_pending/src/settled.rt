@@ -17,9 +17,9 @@ use crate::touched::{Since, erase_touched, is_since, over_period};
 use std::alloc::Global;
 use wm_base::Memory;
 use wm_image::Image;
-use wm_image::laying::period_of;
 use wm_period::Pieces;
 use wm_spec::record::{Record, Trace};
+use wm_version_rows::laying::period_of;
 
 /// A record that is a mark that is meant.
 fn mark_since(found: Option<&Record>, marks: Since) -> Option<&Trace>

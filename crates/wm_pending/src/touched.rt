@@ -18,9 +18,9 @@ use std::alloc::Global;
 use std::collections::BTreeSet;
 use wm_base::{Key, Kind, Memory, Period, Stamp};
 use wm_image::Image;
-use wm_image::laying::period_of;
 use wm_period::{Piece, Pieces};
 use wm_spec::record::{Record, Space, Trace};
+use wm_version_rows::laying::period_of;
 
 /// Which touches or marks are meant: those of a workspace that were made at a place below one, and whose position is
 /// one or behind it.

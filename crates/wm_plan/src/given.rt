@@ -9,11 +9,11 @@ ghost use Rattle.wm_plan.specs.declared.seating.Seating.TheVariants.{Stay};
 use crate::planned::Planned;
 use crate::refuse::mistyped;
 use std::alloc::Global;
-use wm_base::tree::cond::Cond;
-use wm_base::tree::statement::Arg;
 use wm_base::{Memory, Name};
 use wm_calls::{argument_fault, parameter_name, text_given};
 use wm_grammar::{Parameter, Procedure};
+use wm_syntax::cond::Cond;
+use wm_syntax::statement::Arg;
 
 /// What a call is given.
 #[derive(Clone, Copy)]

@@ -1,6 +1,6 @@
 -- The sources of a query, read by a loop that keeps how many may still come.
 use Rattle.std.proofs.Common.{◌≡◌, ℕ, ◌-◌, true, List, [], ◌∷◌, ◌++◌, refl, sym, ap, subst, ◌∙◌, Result, Ok}
-use Rattle.wm_base.specs.Trees.{Src}
+use Rattle.wm_syntax.specs.Trees.{Src}
 use Rattle.wm_grammar.specs.Symbols.{Symbol, next_in}
 use Rattle.wm_grammar.specs.Queries.{one_less}
 use Rattle.wm_grammar.specs.QueryReaders.{next_source_at, separators}

@@ -1,8 +1,8 @@
 -- Readers of parts of a query's items.
 use Rattle.std.specs.Prelude.{ℕ, List, [], ◌∷◌, Option}
-use Rattle.wm_base.specs.declared.tree.query.Agg.{Agg}
-use Rattle.wm_base.specs.Trees.{Expr, Item}
-use Rattle.wm_base.specs.Trees as trees
+use Rattle.wm_syntax.specs.declared.query.Agg.{Agg}
+use Rattle.wm_syntax.specs.Trees.{Expr, Item}
+use Rattle.wm_syntax.specs.Trees as trees
 use Rattle.wm_grammar.specs.Sorts as sorts
 use Rattle.wm_grammar.specs.Reading.{Reader, gives_at, mark_at, ◌>>=◌, ◌>>◌, optional_at}
 use Rattle.wm_grammar.specs.OperandReaders.{id_at}

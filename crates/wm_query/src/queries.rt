@@ -1,5 +1,5 @@
 ghost use Rattle.std.specs.Prelude.{◌≡◌, List};
-ghost use Rattle.wm_base.specs.Views.{expr_view, item_view, out_view, outs_view, projection_view, src_view, srcs_view, query_view};
+ghost use Rattle.wm_syntax.specs.Views.{expr_view, item_view, out_view, outs_view, projection_view, src_view, srcs_view, query_view};
 ghost use Rattle.wm_grammar.specs.OperandReaders.{column_at};
 ghost use Rattle.wm_grammar.specs.Queries.{is_alone, room};
 ghost use Rattle.wm_grammar.specs.QueryReaders.{next_at, list_of_at, other_aggregate_at, counted_at, query_item_at, out_at, projection_at, source_at, joined_at, next_source_at, separators, source_list_at, grouping_at, direction_at, order_key_at, order_at, ordering_at, query_at};
@@ -10,13 +10,13 @@ ghost use Rattle.wm_terms.specs.Telling.{Told};
 use std::alloc::Global;
 use wm_arithmetic::expr;
 use wm_base::Name;
-use wm_base::tree::column::{Col, Cols};
-use wm_base::tree::expr::Expr;
-use wm_base::tree::query::{
-    Agg, Item, Order, OrderBy, Orders, Out, Outs, Projection, Query, Src, Srcs,
-};
 use wm_conditions::{condition, filter};
 use wm_grammar::Sort;
+use wm_syntax::column::{Col, Cols};
+use wm_syntax::expr::Expr;
+use wm_syntax::query::{
+    Agg, Item, Order, OrderBy, Orders, Out, Outs, Projection, Query, Src, Srcs,
+};
 use wm_terms::cursor::Cursor;
 use wm_terms::error::ParseError;
 use wm_terms::operands::column;

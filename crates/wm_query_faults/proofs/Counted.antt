@@ -2,9 +2,9 @@
 use Rattle.std.proofs.Common.{◌≡◌, ◌+◌, Bool, cond, List, [], ◌∷◌, refl, ap, sym, ◌∙◌}
 use Rattle.std.proofs.lemmas.List.Sums.{sum_by-cons}
 use Rattle.std.specs.List.{count_by}
-use Rattle.wm_base.specs.Trees.{Out}
-use Rattle.wm_base.specs.Views.{out_view, outs_view}
-use Rattle.wm_base.specs.declared.tree.query.Out.{Out as OutNode}
+use Rattle.wm_syntax.specs.Trees.{Out}
+use Rattle.wm_syntax.specs.Views.{out_view, outs_view}
+use Rattle.wm_syntax.specs.declared.query.Out.{Out as OutNode}
 
 -- how many of them pass a test
 pub count_viewed : (test : Out → Bool) (outs : List OutNode) → count_by (λ out. test (out_view out)) outs ≡ count_by test (outs_view outs)

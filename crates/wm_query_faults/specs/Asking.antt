@@ -4,9 +4,9 @@ use Rattle.std.specs.List.{list_all}
 use Rattle.std.specs.Option.{option_or}
 use Rattle.wm_base.specs.declared.columns.Column.{Column}
 use Rattle.wm_base.specs.declared.refusal.Refusal.{Refusal}
-use Rattle.wm_base.specs.declared.tree.query.Agg.{Agg}
-use Rattle.wm_base.specs.declared.tree.query.Agg.TheVariants.{Count, Sum, Min, Max}
-use Rattle.wm_base.specs.Trees.{Item, Plain, CountAll, Aggregate, Out, Projection, All, Outs, Src, Query, is_grouped}
+use Rattle.wm_syntax.specs.declared.query.Agg.{Agg}
+use Rattle.wm_syntax.specs.declared.query.Agg.TheVariants.{Count, Sum, Min, Max}
+use Rattle.wm_syntax.specs.Trees.{Item, Plain, CountAll, Aggregate, Out, Projection, All, Outs, Src, Query, is_grouped}
 use Rattle.wm_query_faults.specs.Items.{unknown_in_projection, unknown_in_cols, unknown_in_orders}
 use Rattle.wm_query_faults.specs.Lacking.{table_lacking}
 use Rattle.wm_typing.specs.Names.{unless, unknown_in_filter}

@@ -4,15 +4,15 @@ use Rattle.std.specs.Fmt.{signed_decimal}
 use Rattle.std.specs.List.{list_any, count_by}
 use Rattle.std.specs.Option.{option_or}
 use Rattle.wm_base.specs.declared.columns.Column.{Column}
-use Rattle.wm_base.specs.declared.tree.column.Col.{Col}
-use Rattle.wm_base.specs.declared.tree.column.Suffix.{Suffix}
-use Rattle.wm_base.specs.declared.tree.column.Suffix.TheVariants.{ValidFrom, ValidTill}
-use Rattle.wm_base.specs.declared.tree.operand.Operand.{Operand}
-use Rattle.wm_base.specs.declared.tree.operand.Operand.TheVariants as operands
-use Rattle.wm_base.specs.declared.tree.query.Order.{Order}
-use Rattle.wm_base.specs.declared.tree.query.OrderBy.{OrderBy}
-use Rattle.wm_base.specs.declared.tree.query.OrderBy.TheVariants as orders
-use Rattle.wm_base.specs.Trees.{Expr, Of, Neg, Add, Sub, Mul, Item, Plain, CountAll, Aggregate, Out, Projection, All, Outs}
+use Rattle.wm_syntax.specs.declared.column.Col.{Col}
+use Rattle.wm_syntax.specs.declared.column.Suffix.{Suffix}
+use Rattle.wm_syntax.specs.declared.column.Suffix.TheVariants.{ValidFrom, ValidTill}
+use Rattle.wm_syntax.specs.declared.operand.Operand.{Operand}
+use Rattle.wm_syntax.specs.declared.operand.Operand.TheVariants as operands
+use Rattle.wm_syntax.specs.declared.query.Order.{Order}
+use Rattle.wm_syntax.specs.declared.query.OrderBy.{OrderBy}
+use Rattle.wm_syntax.specs.declared.query.OrderBy.TheVariants as orders
+use Rattle.wm_syntax.specs.Trees.{Expr, Of, Neg, Add, Sub, Mul, Item, Plain, CountAll, Aggregate, Out, Projection, All, Outs}
 use Rattle.wm_spec.specs.Operands.{is_of_source, is_named}
 use Rattle.wm_typing.specs.Names.{lacks_period, unless, unknown_col, unknown_in_expr}
 

@@ -2,11 +2,11 @@
 use Rattle.std.specs.Prelude.{ℕ, ◌==◌, List, [], ◌∷◌, Option, None, Some, unwrap_or, option_map, bytes_eq, if◌then◌else◌}
 use Rattle.std.specs.Option.{option_or}
 use Rattle.wm_base.specs.declared.columns.Column.{Column}
-use Rattle.wm_base.specs.declared.tree.column.Col.{Col}
-use Rattle.wm_base.specs.declared.tree.query.Order.{Order}
-use Rattle.wm_base.specs.declared.tree.query.OrderBy.{OrderBy}
-use Rattle.wm_base.specs.declared.tree.query.OrderBy.TheVariants as orders
-use Rattle.wm_base.specs.Trees.{Item, Plain, CountAll, Aggregate, Out, Projection, All, Outs, Src, Query}
+use Rattle.wm_syntax.specs.declared.column.Col.{Col}
+use Rattle.wm_syntax.specs.declared.query.Order.{Order}
+use Rattle.wm_syntax.specs.declared.query.OrderBy.{OrderBy}
+use Rattle.wm_syntax.specs.declared.query.OrderBy.TheVariants as orders
+use Rattle.wm_syntax.specs.Trees.{Item, Plain, CountAll, Aggregate, Out, Projection, All, Outs, Src, Query}
 use Rattle.wm_query_faults.specs.Items.{alias_count}
 use Rattle.wm_typing.specs.Lacking.{Source, lacking_col, lacking_in_expr, lacking_in_filter}
 

@@ -1,7 +1,7 @@
 //! What a query gets wrong.
 ghost use Rattle.std.specs.Prelude.{◌≡◌, true, None, IfOk, option_copied};
-ghost use Rattle.wm_base.specs.Trees.{is_grouped};
-ghost use Rattle.wm_base.specs.Views.{filter_view, item_view, outs_view, projection_view, query_view, srcs_view};
+ghost use Rattle.wm_syntax.specs.Trees.{is_grouped};
+ghost use Rattle.wm_syntax.specs.Views.{filter_view, item_view, outs_view, projection_view, query_view, srcs_view};
 ghost use Rattle.wm_query_faults.specs.Asking.{unknown_in_sources, unknown_before, unknown_in_query, is_no_period, takes, agg_text, mistyped_in_item, mistyped_in_outs, mistyped_in_projection, mistyped_in_sources, mistyped_in_query, are_sources_typed, query_fault_in, query_fault};
 ghost use Rattle.wm_typing.specs.Types.{is_filter_typed};
 
@@ -10,8 +10,8 @@ use crate::meant::table_lacking;
 use crate::orders::{copy_of, unknown_in_orders};
 use std::alloc::Global;
 use wm_base::columns::PERIOD;
-use wm_base::tree::query::{Agg, Item, Out, Projection, Query, Src};
 use wm_base::{Column, Columns, Memory, Name, Refusal};
+use wm_syntax::query::{Agg, Item, Out, Projection, Query, Src};
 use wm_typing::first::{first_of, unless};
 use wm_typing::names::unknown_in_filter;
 use wm_typing::refusals::first_refusal;

@@ -1,16 +1,16 @@
 //! The columns that the items of a query and GROUP BY name.
 ghost use Rattle.std.specs.Prelude.{◌≡◌, ◌&&◌, is_none, option_copied};
-ghost use Rattle.wm_base.specs.Views.{expr_view, item_view, outs_view, projection_view};
+ghost use Rattle.wm_syntax.specs.Views.{expr_view, item_view, outs_view, projection_view};
 ghost use Rattle.wm_spec.specs.Operands.{is_of_source, is_named};
 ghost use Rattle.wm_typing.specs.Names.{lacks_period as lacks};
 ghost use Rattle.wm_query_faults.specs.Items.{is_same_end, name_one, share_source, lack_one, is_same_col, is_among, col_of_operand, col_of, ungrouped, unknown_in_item, unknown_in_outs, is_grouped_by, ungrouped_column, unknown_in_projection, unknown_in_cols};
 
 use wm_base::Column;
-use wm_base::tree::column::{Col, Suffix};
-use wm_base::tree::expr::Expr;
-use wm_base::tree::operand::Operand;
-use wm_base::tree::query::{Item, Out, Projection};
 use wm_expr::names::is_named;
+use wm_syntax::column::{Col, Suffix};
+use wm_syntax::expr::Expr;
+use wm_syntax::operand::Operand;
+use wm_syntax::query::{Item, Out, Projection};
 use wm_typing::first::{first_of, unless};
 use wm_typing::kinds::{is_of_source, lacks_period};
 use wm_typing::names::{unknown_col, unknown_in_expr};

@@ -1,11 +1,11 @@
 //! The table whose valid time a query names.
 ghost use Rattle.std.specs.Prelude.{◌≡◌, [], option_copied};
-ghost use Rattle.wm_base.specs.Views.{query_view, src_view, srcs_view};
+ghost use Rattle.wm_syntax.specs.Views.{query_view, src_view, srcs_view};
 ghost use Rattle.wm_query_faults.specs.Lacking.{label, table_of, last_table, table_meant, table_lacking};
 
 use crate::lacking_parts::lacking_in_query;
-use wm_base::tree::query::{Query, Src};
 use wm_base::{Column, Name};
+use wm_syntax::query::{Query, Src};
 
 /// The name that the source goes by: its alias, where it has one.
 fn label(source: &Src) -> &[u8]

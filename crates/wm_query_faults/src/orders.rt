@@ -2,16 +2,16 @@
 ghost use Rattle.std.specs.Prelude.{◌≡◌, IfOk, option_copied};
 ghost use Rattle.std.specs.Fmt.{signed_decimal};
 ghost use Rattle.std.specs.List.{count_by, list_any};
-ghost use Rattle.wm_base.specs.Trees.{Out as OutTree};
-ghost use Rattle.wm_base.specs.Views.{item_view, out_view, outs_view, projection_view};
+ghost use Rattle.wm_syntax.specs.Trees.{Out as OutTree};
+ghost use Rattle.wm_syntax.specs.Views.{item_view, out_view, outs_view, projection_view};
 ghost use Rattle.wm_typing.specs.Names.{unless as unless_of};
 ghost use Rattle.wm_query_faults.specs.Items.{item_count, place_of, is_below, has_name, is_alias, alias_count, is_col, is_item_col, is_item, unknown_by_col, unknown_by_name, unknown_by, unknown_in_orders};
 
 use crate::items::{col_of, is_same_col};
 use std::alloc::Global;
-use wm_base::tree::column::Col;
-use wm_base::tree::query::{Item, Order, OrderBy, Out, Projection};
 use wm_base::{Column, Memory, Name};
+use wm_syntax::column::Col;
+use wm_syntax::query::{Item, Order, OrderBy, Out, Projection};
 use wm_typing::first::{first_of, unless};
 use wm_typing::kinds::lacks_period;
 use wm_typing::names::unknown_col;

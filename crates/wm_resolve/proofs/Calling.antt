@@ -3,10 +3,10 @@ use Rattle.std.proofs.Common.{◌≡◌, ℕ, Bool, true, false, not, if◌then�
 use Rattle.std.proofs.lemmas.Slice.Eq.{bytes_eq-Decides}
 use Rattle.std.specs.Option.{option_or}
 use Rattle.std.specs.Str.{bytes_eq}
-use Rattle.wm_base.specs.Trees.{Cond}
+use Rattle.wm_syntax.specs.Trees.{Cond}
 use Rattle.wm_base.specs.declared.refusal.FormRefusal.TheVariants.{Wm012}
 use Rattle.wm_base.specs.declared.refusal.Refusal.TheVariants.{Form}
-use Rattle.wm_base.specs.declared.tree.statement.Arg.{Arg}
+use Rattle.wm_syntax.specs.declared.statement.Arg.{Arg}
 use Rattle.wm_calls.specs.Arguments.{text_given}
 use Rattle.wm_calls.specs.Faults.{argument_fault, misfit_before}
 use Rattle.wm_decided.specs.Keys.{columns_of_keys}

@@ -90,7 +90,7 @@ module _ (p : Parts) (version : ℕ) (es : List Entry) (tells : TellsList p vers
 
     pub told_copies : (ss : List (Stretch Told)) → s.till ≤ END → AreCopies p s.from s.till ps ss → ss ≡ told_on es g s
     told_copies ss end are =
-        is_stretches one_stamp said ends ss (λ x. eq-eqb x.stamp x.stamp refl) up steady right are.ordered are.joined
+        is_stretches one_stamp said ends ss (λ x. eq-eqb x.stamp x.stamp refl) up steady are.ordered are.joined
         (λ t. are.holds say_one t ∙ by_within t (within s.from s.till t) refl)
       where
         before : (from till t end : ℕ) → within from till t ≡ true → till ≤ end → t < end

@@ -1,7 +1,7 @@
 -- ResolveConflicts over a table, by what is decided.
 use Rattle.std.specs.Prelude.{ℕ, ◌≡◌, Bool, List, Option}
 use Rattle.std.specs.List.{All}
-use Rattle.wm_base.specs.Trees.{Cond}
+use Rattle.wm_syntax.specs.Trees.{Cond}
 use Rattle.wm_decided.specs.Staged.{IsStaged}
 use Rattle.wm_decided.specs.declared.keep.Keep.{Keep}
 use Rattle.wm_decided.specs.declared.keep.Keep.TheVariants.{Parent, Child, Base}

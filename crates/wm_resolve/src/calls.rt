@@ -1,7 +1,7 @@
 //! What the four calls are given.
 
 ghost use Rattle.std.specs.Prelude.{◌≡◌, ◌<◌, ℕ, List, [], Some, true, unwrap_or, option_copied, IfOk};
-ghost use Rattle.wm_base.specs.Views.{filter_view};
+ghost use Rattle.wm_syntax.specs.Views.{filter_view};
 ghost use Rattle.wm_base.specs.declared.instant.TheConstants.{END};
 ghost use Rattle.wm_calls.specs.Arguments.{text_given};
 ghost use Rattle.wm_grammar.specs.declared.procedure.Parameter.TheVariants as parameters;
@@ -19,7 +19,6 @@ use crate::committing::commit_resolve;
 use crate::deciding::{Asked, resolve_in};
 use crate::opening::{begin_resolve, rollback_resolve};
 use std::alloc::Global;
-use wm_base::tree::statement::Arg;
 use wm_base::{FormRefusal, Memory, Name, Refusal};
 use wm_calls::{misfit_before, parameter_name, text_given};
 use wm_decided::Keep;
@@ -33,6 +32,7 @@ use wm_plan::refuse::{mistyped, no_table, versioning};
 use wm_plan::session::Session;
 use wm_reader::capitals_of;
 use wm_spec::record::Table;
+use wm_syntax::statement::Arg;
 
 /// BeginResolve.
 pub fn begin_call(

@@ -3,7 +3,7 @@
 ghost use Rattle.std.specs.Prelude.{◌≡◌, ◌++◌, ℕ, List, map, true, false, Some, IfOk, IfSome, OnOk};
 ghost use Rattle.std.specs.List.{filter_map};
 ghost use Rattle.std.specs.Option.{option_map, option_to_list};
-ghost use Rattle.wm_base.specs.Views.{filter_view};
+ghost use Rattle.wm_syntax.specs.Views.{filter_view};
 ghost use Rattle.wm_decided.specs.Deciding.{copied_on, decided_on, told_on};
 ghost use Rattle.wm_decided.specs.Keys.{columns_of_keys};
 ghost use Rattle.wm_graph.specs.Parts.{parts_of, table_of};
@@ -30,7 +30,6 @@ use crate::meaning::meant;
 use crate::opening::has_open;
 use crate::restorable::are_staged;
 use std::alloc::Global;
-use wm_base::tree::cond::Cond;
 use wm_base::{Columns, Key, Memory, Name};
 use wm_decided::Keep;
 use wm_decided::decision::{Copied, Decision};
@@ -45,6 +44,8 @@ use wm_plan::refuse::{empty_period, no_resolve, no_workspace, not_built};
 use wm_plan::seating::Seating;
 use wm_plan::session::{Session, Setting};
 use wm_spec::record::{Space, Table};
+use wm_syntax::cond::Cond;
+use wm_version_rows::laying;
 
 /// A workspace with its parent, the table whose conflicts are decided, for which side, and which keys are meant: those
 /// that meet a condition over these columns.
@@ -84,7 +85,7 @@ fn shown_of(
             return Ok(shown);
         }
     }
-    let pieces = image.shown(alloc, version, table, key)?;
+    let pieces = laying::shown(alloc, image, version, table, key)?;
     let key = key.copy(alloc)?;
     Ok(Shown { key, pieces })
 }

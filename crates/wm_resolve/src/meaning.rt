@@ -2,7 +2,7 @@
 
 ghost use Rattle.std.specs.Prelude.{◌≡◌, filter, true, IfOk};
 ghost use Rattle.std.specs.List.{list_all};
-ghost use Rattle.wm_base.specs.Views.{cond_view, filter_view};
+ghost use Rattle.wm_syntax.specs.Views.{cond_view, filter_view};
 ghost use Rattle.wm_base.specs.declared.row.Row.{Row as RowOf};
 ghost use Rattle.wm_base.specs.declared.truth.Truth.{Truth as TruthOf};
 ghost use Rattle.wm_decided.specs.Keys.{key_as_row};
@@ -12,12 +12,12 @@ ghost use Rattle.wm_spec.specs.Conditions.{fits, is_yes, truth_of, typed};
 ghost use Rattle.wm_typing.specs.Types.{is_filter_typed};
 
 use std::alloc::Global;
-use wm_base::tree::cond::Cond;
 use wm_base::{Columns, Memory, Row, Truth};
 use wm_decided::keyed::key_as_row;
 use wm_expr::truth;
 use wm_pending::clash::Conflict;
 use wm_rowtest::{Judge, RowTest};
+use wm_syntax::cond::Cond;
 
 /// The conflicts whose keys the test keeps, in order.
 fn kept<F: Fn(&Row) -> Truth + Judge>(

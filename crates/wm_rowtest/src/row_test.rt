@@ -2,12 +2,12 @@
 ghost use Rattle.std.specs.Prelude.{◌≡◌, true};
 ghost use Rattle.wm_base.specs.declared.row.Row.{Row as RowOf};
 ghost use Rattle.wm_base.specs.declared.truth.Truth.{Truth as TruthOf};
-ghost use Rattle.wm_base.specs.Views.{cond_view};
+ghost use Rattle.wm_syntax.specs.Views.{cond_view};
 ghost use Rattle.wm_spec.specs.Conditions.{typed, fits, truth_of, is_yes};
 
 use crate::judge::Judge;
-use wm_base::tree::cond::Cond;
 use wm_base::{Columns, Row, Truth};
+use wm_syntax::cond::Cond;
 
 /// A borrowed condition over the rows of some columns, with a closure that answers it: on each row that fits the
 /// columns the closure may be called, and what it answers is how true the condition is there.

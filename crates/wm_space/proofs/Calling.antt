@@ -1,7 +1,7 @@
 -- What calls do, by the texts that are given and by what is wrong with their arguments.
 use Rattle.std.proofs.Common.{◌≡◌, ℕ, Bool, true, false, List, [], if◌then◌else◌, Option, Some, None, unwrap_or, refl, sym, ap, ◌∙◌}
 use Rattle.std.specs.Str.{bytes_eq}
-use Rattle.wm_base.specs.declared.tree.statement.Arg.{Arg}
+use Rattle.wm_syntax.specs.declared.statement.Arg.{Arg}
 use Rattle.wm_base.specs.declared.instant.TheConstants.{END}
 use Rattle.wm_calls.specs.Arguments.{moment_given, text_given}
 use Rattle.wm_calls.specs.Faults.{argument_fault}

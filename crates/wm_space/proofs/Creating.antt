@@ -1,6 +1,6 @@
 -- A table may be made where nothing is wrong with its names and its shape, and its name is new.
 use Rattle.std.proofs.Common.{◌≡◌, ℕ, List, None}
-use Rattle.wm_base.specs.declared.tree.statement.CreateItem.{CreateItem}
+use Rattle.wm_syntax.specs.declared.statement.CreateItem.{CreateItem}
 use Rattle.wm_making.specs.Creating.{names_fault, shape_fault}
 use Rattle.wm_making.proofs.Shapes.{table_in_order}
 use Rattle.wm_model.proofs.Creating.{MayMake}

@@ -13,7 +13,6 @@ ghost use Rattle.wm_plan.specs.Planning.{DoesIt};
 
 use crate::ending::ended;
 use std::alloc::Global;
-use wm_base::tree::statement::CreateItems;
 use wm_base::{Memory, Name};
 use wm_image::Image;
 use wm_making::{names_fault, shape_fault, table_of};
@@ -22,6 +21,7 @@ use wm_plan::planned::Planned;
 use wm_plan::refuse::{most_tables, table_there};
 use wm_plan::work::is_spent;
 use wm_state::edit::Edit;
+use wm_syntax::statement::CreateItems;
 
 /// The most tables of a store.
 const TABLE_LIMIT: usize = 256;

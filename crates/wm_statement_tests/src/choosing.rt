@@ -1,18 +1,19 @@
 //! What a test chooses of the rows of BUD, and what a query answers by it.
 ghost use Rattle.std.specs.Prelude.{◌≡◌, true};
 ghost use Rattle.std.specs.List.{list_all};
-ghost use Rattle.wm_base.specs.Views.{cond_view, filter_view, projection_view};
+ghost use Rattle.wm_syntax.specs.Views.{cond_view, filter_view, projection_view};
 ghost use Rattle.wm_spec.specs.Conditions.{fits as row_fits};
-ghost use Rattle.wm_select.specs.Query.{columns_of as all_columns, rows_fit as do_fit, where_of as where_is, projection_lasts as items_last};
+ghost use Rattle.wm_joining.specs.Kept.{columns_of as all_columns, rows_fit as do_fit, where_of as where_is};
+ghost use Rattle.wm_select.specs.Query.{projection_lasts as items_last};
 
 use crate::tables::{are_first, rows};
 use std::alloc::Global;
-use wm_base::tree::query::Query;
 use wm_base::{Columns, Listings, Memory, Row, Truth};
 use wm_dml::chosen;
 use wm_expr::fits;
 use wm_rowtest::{Judge, RowTest};
 use wm_select::select;
+use wm_syntax::query::Query;
 
 /// Whether each row fits the columns.
 pub fn all_fit(columns: &Columns, rows: &[Row]) -> bool

@@ -2,18 +2,19 @@
 ghost use Rattle.std.specs.Prelude.{◌≡◌, true, IfSome};
 ghost use Rattle.wm_base.specs.declared.row.Row.{Row as RowOf};
 ghost use Rattle.wm_base.specs.declared.truth.Truth.{Truth as TruthOf};
-ghost use Rattle.wm_base.specs.Views.{cond_view, filter_view, projection_view};
+ghost use Rattle.wm_syntax.specs.Views.{cond_view, filter_view, projection_view};
 ghost use Rattle.wm_spec.specs.Conditions.{typed as is_typed, fits, truth_of};
-ghost use Rattle.wm_select.specs.Query.{columns_of as all_columns, rows_fit as do_fit, where_of as where_is, projection_lasts as items_last};
+ghost use Rattle.wm_joining.specs.Kept.{columns_of as all_columns, rows_fit as do_fit, where_of as where_is};
+ghost use Rattle.wm_select.specs.Query.{projection_lasts as items_last};
 
 use crate::choosing::{all_fit, answers_first, chooses_first};
 use std::alloc::Global;
 use std::cell::Cell;
-use wm_base::tree::cond::Cond;
-use wm_base::tree::query::{Projection, Query};
 use wm_base::{Columns, Listings, Row, Truth};
 use wm_expr::{truth, typed};
 use wm_rowtest::{Judge, RowTest};
+use wm_syntax::cond::Cond;
+use wm_syntax::query::{Projection, Query};
 
 /// The columns of the only table, and None where there is not just one.
 fn columns_of(alloc: Global, tables: &Listings) -> Option<Columns>

@@ -1,11 +1,11 @@
 //! The trees of ID = 1 and of a query with it: one constructor in each function.
 use std::alloc::Global;
-use wm_base::tree::column::{Col, Cols};
-use wm_base::tree::cond::{Cmp, Cond};
-use wm_base::tree::constant::Const;
-use wm_base::tree::operand::Operand;
-use wm_base::tree::query::{Orders, Projection, Query, Src};
 use wm_base::{Memory, Name};
+use wm_syntax::column::{Col, Cols};
+use wm_syntax::cond::{Cmp, Cond};
+use wm_syntax::constant::Const;
+use wm_syntax::operand::Operand;
+use wm_syntax::query::{Orders, Projection, Query, Src};
 
 fn column(alloc: Global, name: &[u8]) -> Result<Operand, Memory> {
     let name = Name::copy_of(alloc, name)?;

@@ -1,7 +1,7 @@
 //! Statements, read token by token.
 ghost use Rattle.std.specs.Prelude.{◌≡◌, ℕ, ◌≤◌, ◌∷◌, [], List, IfOk};
-ghost use Rattle.wm_base.specs.Trees.{Expr as ExprTree, Statement as StatementTree};
-ghost use Rattle.wm_base.specs.Views.{expr_view, exprs_view, set_view, sets_view, statement_view, line_view};
+ghost use Rattle.wm_syntax.specs.Trees.{Expr as ExprTree, Statement as StatementTree};
+ghost use Rattle.wm_syntax.specs.Views.{expr_view, exprs_view, set_view, sets_view, statement_view, line_view};
 ghost use Rattle.wm_grammar.specs.Sorts as sorts;
 ghost use Rattle.wm_grammar.specs.Reading.{optional_at};
 ghost use Rattle.wm_grammar.specs.Symbols.{next_in};
@@ -15,11 +15,11 @@ ghost use Rattle.wm_terms.specs.Telling.{Told};
 use std::alloc::Global;
 use wm_arithmetic::expr;
 use wm_base::Name;
-use wm_base::tree::column::Names;
-use wm_base::tree::expr::{Expr, Exprs};
-use wm_base::tree::statement::{ColumnType, CreateItem, CreateItems, Set, Sets, Statement};
 use wm_conditions::filter;
 use wm_grammar::Sort;
+use wm_syntax::column::Names;
+use wm_syntax::expr::{Expr, Exprs};
+use wm_syntax::statement::{ColumnType, CreateItem, CreateItems, Set, Sets, Statement};
 use wm_terms::cursor::Cursor;
 use wm_terms::error::ParseError;
 use wm_terms::operands::{name, plain_name};

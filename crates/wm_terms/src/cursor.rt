@@ -14,11 +14,11 @@ use crate::error::ParseError;
 use crate::meaning::{between, int_of, is_zero, mask_of, size_of, unquoted_bytes};
 use std::alloc::Global;
 use std::marker::Model;
-use wm_base::tree::constant::Const;
 use wm_base::{Name, Text};
 use wm_grammar::{Sort, sort_of};
 use wm_instants::DateForm;
 use wm_lexer::{skipped, skipped_behind, token_here};
+use wm_syntax::constant::Const;
 
 /// The sort and the size of the token at the front of the bytes, which begin with no blank.
 fn peek(rest: &[u8]) -> (Sort, usize)

@@ -3,10 +3,10 @@ ghost use Rattle.std.specs.List.{list_all};
 ghost use Rattle.wm_grammar.specs.Meaning.{number_of, greatest, between, unquoted, instant_for, mask_of, operator_of};
 
 use std::alloc::Global;
-use wm_base::tree::operand::Operator;
 use wm_base::{Instant, Memory};
 use wm_grammar::is_word;
 use wm_instants::{DateForm, read_in};
+use wm_syntax::operand::Operator;
 
 /// The number of the digits, unless it is above the greatest integer.
 #[tactic(auto, unfolding(wm_grammar::specs::Meaning::number_of))]

@@ -6,12 +6,12 @@ use crate::cursor::Cursor;
 use crate::error::ParseError;
 use crate::meaning::{instant_for, operator_of};
 use std::alloc::Global;
-use wm_base::tree::column::{Col, Suffix};
-use wm_base::tree::constant::{Const, PeriodEnd};
-use wm_base::tree::operand::{Operand, Operator, Per};
 use wm_base::{Instant, Name};
 use wm_grammar::Sort;
 use wm_instants::DateForm;
+use wm_syntax::column::{Col, Suffix};
+use wm_syntax::constant::{Const, PeriodEnd};
+use wm_syntax::operand::{Operand, Operator, Per};
 
 /// The name of a declared column.
 #[tactic(auto, unfolding(wm_grammar::specs::OperandReaders::plain_name_at))]

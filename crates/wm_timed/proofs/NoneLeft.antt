@@ -2,18 +2,18 @@
 use Rattle.std.proofs.Common.{◌≡◌, ℕ, Bool, false, List, [], ◌∷◌, map, Option, Some, None, refl, ap, ◌∙◌}
 use Rattle.std.specs.Prelude.{◌||◌}
 use Rattle.std.specs.List.{list_any}
-use Rattle.wm_base.specs.declared.tree.constant.PeriodEnd.{PeriodEnd}
-use Rattle.wm_base.specs.declared.tree.constant.PeriodEnd.TheVariants as ends
-use Rattle.wm_base.specs.declared.tree.constant.Const.{Const}
-use Rattle.wm_base.specs.declared.tree.constant.Const.TheVariants as consts
-use Rattle.wm_base.specs.declared.tree.operand.Per.{Per}
-use Rattle.wm_base.specs.declared.tree.operand.Per.TheVariants as pers
-use Rattle.wm_base.specs.declared.tree.operand.Operand.{Operand}
-use Rattle.wm_base.specs.declared.tree.operand.Operand.TheVariants as operands
-use Rattle.wm_base.specs.declared.tree.statement.ArgValue.{ArgValue}
-use Rattle.wm_base.specs.declared.tree.statement.ArgValue.TheVariants as values
-use Rattle.wm_base.specs.Trees.{Expr, Of, Neg, Add, Sub, Mul, Cond, Or, And, Not, Compare, IsNull, OneOf, Between}
-use Rattle.wm_base.specs.Trees.{Item, Plain, CountAll, Aggregate, Projection, All, Outs, Query, Statement, Create, Insert, Update, Delete, Select, Call}
+use Rattle.wm_syntax.specs.declared.constant.PeriodEnd.{PeriodEnd}
+use Rattle.wm_syntax.specs.declared.constant.PeriodEnd.TheVariants as ends
+use Rattle.wm_syntax.specs.declared.constant.Const.{Const}
+use Rattle.wm_syntax.specs.declared.constant.Const.TheVariants as consts
+use Rattle.wm_syntax.specs.declared.operand.Per.{Per}
+use Rattle.wm_syntax.specs.declared.operand.Per.TheVariants as pers
+use Rattle.wm_syntax.specs.declared.operand.Operand.{Operand}
+use Rattle.wm_syntax.specs.declared.operand.Operand.TheVariants as operands
+use Rattle.wm_syntax.specs.declared.statement.ArgValue.{ArgValue}
+use Rattle.wm_syntax.specs.declared.statement.ArgValue.TheVariants as values
+use Rattle.wm_syntax.specs.Trees.{Expr, Of, Neg, Add, Sub, Mul, Cond, Or, And, Not, Compare, IsNull, OneOf, Between}
+use Rattle.wm_syntax.specs.Trees.{Item, Plain, CountAll, Aggregate, Projection, All, Outs, Query, Statement, Create, Insert, Update, Delete, Select, Call}
 use Rattle.wm_timed.specs.Timed.{timed_end, timed_const, timed_per, timed_operand, timed_expr, timed_cond, timed_filter, timed_item, timed_out, timed_projection, timed_src, timed_query, timed_set, timed_value, timed_arg, timed}
 use Rattle.wm_timed.specs.Left.{is_sysdate, const_waits, per_waits, operand_waits, expr_waits, cond_waits, filter_waits, item_waits, out_waits, projection_waits, src_waits, query_waits, set_waits, value_waits, arg_waits, has_sysdate}
 

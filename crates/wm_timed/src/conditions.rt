@@ -1,11 +1,11 @@
 ghost use Rattle.std.specs.Prelude.{◌≡◌};
-ghost use Rattle.wm_base.specs.Views.{cond_view, filter_view};
+ghost use Rattle.wm_syntax.specs.Views.{cond_view, filter_view};
 ghost use Rattle.wm_timed.specs.Timed.{timed_cond, timed_filter};
 
 use crate::operands::{set_consts, set_operand};
 use std::alloc::Global;
 use wm_base::Instant;
-use wm_base::tree::cond::Cond;
+use wm_syntax::cond::Cond;
 
 pub fn set_cond(alloc: Global, cond: &mut Cond, moment: Instant)
     ensures { cond_view cond.new ≡ timed_cond moment (cond_view cond.old) }

@@ -1,10 +1,10 @@
 ghost use Rattle.std.specs.Prelude.{◌≡◌, map};
-ghost use Rattle.wm_base.specs.Views.{expr_view, exprs_view};
+ghost use Rattle.wm_syntax.specs.Views.{expr_view, exprs_view};
 ghost use Rattle.wm_timed.specs.Timed.{timed_expr};
 
 use crate::operands::set_operand;
 use wm_base::Instant;
-use wm_base::tree::expr::Expr;
+use wm_syntax::expr::Expr;
 
 pub fn set_expr(expr: &mut Expr, moment: Instant)
     ensures { expr_view expr.new ≡ timed_expr moment (expr_view expr.old) }

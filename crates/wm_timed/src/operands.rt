@@ -4,8 +4,8 @@ ghost use Rattle.wm_timed.specs.Timed.{timed_end, timed_const, timed_consts, tim
 use std::alloc::Global;
 use std::mem;
 use wm_base::Instant;
-use wm_base::tree::constant::{Const, Consts, PeriodEnd};
-use wm_base::tree::operand::{Operand, Per};
+use wm_syntax::constant::{Const, Consts, PeriodEnd};
+use wm_syntax::operand::{Operand, Per};
 
 fn set_end(end: &mut PeriodEnd, moment: Instant)
     ensures { end.new ≡ timed_end moment end.old }

@@ -1,12 +1,12 @@
 ghost use Rattle.std.specs.Prelude.{◌≡◌, map};
-ghost use Rattle.wm_base.specs.Views.{item_view, outs_view, projection_view, srcs_view, query_view};
+ghost use Rattle.wm_syntax.specs.Views.{item_view, outs_view, projection_view, srcs_view, query_view};
 ghost use Rattle.wm_timed.specs.Timed.{timed_item, timed_out, timed_projection, timed_src, timed_query};
 
 use crate::conditions::set_filter;
 use crate::expressions::set_expr;
 use std::alloc::Global;
 use wm_base::Instant;
-use wm_base::tree::query::{Item, Out, Projection, Query, Src};
+use wm_syntax::query::{Item, Out, Projection, Query, Src};
 
 fn set_item(item: &mut Item, moment: Instant)
     ensures { item_view item.new ≡ timed_item moment (item_view item.old) }

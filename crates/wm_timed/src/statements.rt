@@ -1,5 +1,5 @@
 ghost use Rattle.std.specs.Prelude.{◌≡◌, map, false};
-ghost use Rattle.wm_base.specs.Views.{sets_view, statement_view};
+ghost use Rattle.wm_syntax.specs.Views.{sets_view, statement_view};
 ghost use Rattle.wm_timed.specs.Timed.{timed_set, timed_value, timed_arg, timed};
 ghost use Rattle.wm_timed.specs.Left.{has_sysdate};
 
@@ -10,7 +10,7 @@ use crate::queries::set_query;
 use std::alloc::Global;
 use std::mem;
 use wm_base::Instant;
-use wm_base::tree::statement::{Arg, ArgValue, Args, Set, Statement};
+use wm_syntax::statement::{Arg, ArgValue, Args, Set, Statement};
 
 fn set_sets(sets: &mut [Set], moment: Instant)
     ensures { sets_view sets.new ≡ map (timed_set moment) (sets_view sets.old) }

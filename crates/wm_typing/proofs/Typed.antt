@@ -4,11 +4,11 @@ use Rattle.std.proofs.lemmas.Bool.{and_from}
 use Rattle.std.specs.List.{list_all}
 use Rattle.wm_base.proofs.Plain.{none_since, option_or_parts}
 use Rattle.wm_base.specs.declared.columns.Column.{Column}
-use Rattle.wm_base.specs.declared.tree.constant.Const.{Const}
-use Rattle.wm_base.specs.declared.tree.operand.Operand.{Operand}
-use Rattle.wm_base.specs.declared.tree.operand.Operand.TheVariants as operands
-use Rattle.wm_base.specs.Trees.{Cond, Or, And, Not, Compare, IsNull, OneOf, Between}
-use Rattle.wm_base.specs.Trees.{Set}
+use Rattle.wm_syntax.specs.declared.constant.Const.{Const}
+use Rattle.wm_syntax.specs.declared.operand.Operand.{Operand}
+use Rattle.wm_syntax.specs.declared.operand.Operand.TheVariants as operands
+use Rattle.wm_syntax.specs.Trees.{Cond, Or, And, Not, Compare, IsNull, OneOf, Between}
+use Rattle.wm_syntax.specs.Trees.{Set}
 use Rattle.wm_spec.specs.Conditions.{may_compare, typed_in, typed}
 use Rattle.wm_spec.specs.Operands.{constant_kind, operand_kind}
 use Rattle.wm_spec.specs.declared.record.table.Table.{Table}

@@ -3,12 +3,12 @@ use Rattle.std.specs.Prelude.{ℕ, Bool, ◌||◌, List, Option, None, Some, is_
 use Rattle.std.specs.List.{list_any}
 use Rattle.std.specs.Option.{option_or}
 use Rattle.wm_base.specs.declared.columns.Column.{Column}
-use Rattle.wm_base.specs.declared.tree.column.Col.{Col}
-use Rattle.wm_base.specs.declared.tree.operand.Operand.{Operand}
-use Rattle.wm_base.specs.declared.tree.operand.Operand.TheVariants as operands
-use Rattle.wm_base.specs.declared.tree.operand.Per.{Per}
-use Rattle.wm_base.specs.declared.tree.operand.Per.TheVariants as periods
-use Rattle.wm_base.specs.Trees.{Expr, Of, Neg, Add, Sub, Mul, Cond, Or, And, Not, Compare, IsNull, OneOf, Between, Set}
+use Rattle.wm_syntax.specs.declared.column.Col.{Col}
+use Rattle.wm_syntax.specs.declared.operand.Operand.{Operand}
+use Rattle.wm_syntax.specs.declared.operand.Operand.TheVariants as operands
+use Rattle.wm_syntax.specs.declared.operand.Per.{Per}
+use Rattle.wm_syntax.specs.declared.operand.Per.TheVariants as periods
+use Rattle.wm_syntax.specs.Trees.{Expr, Of, Neg, Add, Sub, Mul, Cond, Or, And, Not, Compare, IsNull, OneOf, Between, Set}
 use Rattle.wm_spec.specs.Operands.{wm_valid}
 use Rattle.wm_typing.specs.Names.{lacks_period}
 

@@ -3,9 +3,9 @@ use Rattle.std.specs.Prelude.{ℕ, Bool, true, false, ◌&&◌, ◌||◌, ◌==�
 use Rattle.std.specs.List.{list_all}
 use Rattle.std.specs.Option.{option_or}
 use Rattle.wm_base.specs.declared.columns.Column.{Column}
-use Rattle.wm_base.specs.declared.tree.cond.Cmp.{Cmp}
-use Rattle.wm_base.specs.declared.tree.cond.Cmp.TheVariants.{Eq, NotEq, BangEq, Lt, Le, Gt, Ge}
-use Rattle.wm_base.specs.Trees.{Expr, Of, Neg, Add, Sub, Mul, Cond, Or, And, Not, Compare, IsNull, OneOf, Between}
+use Rattle.wm_syntax.specs.declared.cond.Cmp.{Cmp}
+use Rattle.wm_syntax.specs.declared.cond.Cmp.TheVariants.{Eq, NotEq, BangEq, Lt, Le, Gt, Ge}
+use Rattle.wm_syntax.specs.Trees.{Expr, Of, Neg, Add, Sub, Mul, Cond, Or, And, Not, Compare, IsNull, OneOf, Between}
 use Rattle.wm_spec.specs.Conditions.{may_compare, typed}
 use Rattle.wm_spec.specs.Operands.{constant_kind}
 use Rattle.wm_typing.specs.Names.{named_kind, unless}

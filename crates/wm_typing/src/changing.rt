@@ -3,8 +3,8 @@ ghost use Rattle.std.specs.Prelude.{◌≡◌, [], bytes_eq, slice_get, true, fa
 ghost use Rattle.std.specs.List.{list_any};
 ghost use Rattle.std.specs.Option.{option_map_or};
 ghost use Rattle.wm_spec.specs.declared.record.column.TableColumn.{TableColumn as OneColumn};
-ghost use Rattle.wm_base.specs.Trees.{Set as SetTree};
-ghost use Rattle.wm_base.specs.Views.{filter_view, set_view, sets_view};
+ghost use Rattle.wm_syntax.specs.Trees.{Set as SetTree};
+ghost use Rattle.wm_syntax.specs.Views.{filter_view, set_view, sets_view};
 ghost use Rattle.wm_typing.specs.Changing.{is_named_at as names_at, may_set, unknown_in_set, unknown_in_sets, may_stand, mistyped_in_set, mistyped_in_sets, is_key, key_set, lacking_where, lacking_anywhere, update_fault, update_fault_in, delete_fault, delete_fault_in};
 ghost use Rattle.wm_typing.specs.Columns.{columns_of_table};
 ghost use Rattle.wm_typing.specs.Lacking.{lacks_in_set, lacks_in_sets};
@@ -19,10 +19,10 @@ use crate::refusals::first_refusal;
 use crate::types::{expr_kind, mistyped_in_expr, mistyped_in_filter};
 use std::alloc::Global;
 use wm_base::columns::PERIOD;
-use wm_base::tree::cond::Cond;
-use wm_base::tree::statement::Set;
 use wm_base::{Column, Memory, Refusal};
 use wm_spec::record::{Table, TableColumn};
+use wm_syntax::cond::Cond;
+use wm_syntax::statement::Set;
 
 /// Whether one of the changes sets the column of that name.
 fn is_set(before: &[Set], name: &[u8]) -> bool

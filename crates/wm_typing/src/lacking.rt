@@ -1,15 +1,15 @@
 //! The first WM_VALID of a table that has no valid time: the source that stands before it, where one does.
 ghost use Rattle.std.specs.Prelude.{◌≡◌, is_some, option_copied};
 ghost use Rattle.std.specs.Option.{option_or};
-ghost use Rattle.wm_base.specs.Views.{cond_view, expr_view, filter_view};
+ghost use Rattle.wm_syntax.specs.Views.{cond_view, expr_view, filter_view};
 ghost use Rattle.wm_typing.specs.Lacking.{lacking_name, lacking_col, lacking_period, lacking_in_operand, lacking_in_expr, lacking_in_cond, lacking_in_filter};
 
 use crate::kinds::lacks_period;
-use wm_base::tree::column::Col;
-use wm_base::tree::cond::Cond;
-use wm_base::tree::expr::Expr;
-use wm_base::tree::operand::{Operand, Per};
 use wm_base::{Column, Name};
+use wm_syntax::column::Col;
+use wm_syntax::cond::Cond;
+use wm_syntax::expr::Expr;
+use wm_syntax::operand::{Operand, Per};
 
 /// The first of them that is there.
 pub fn first_source<'a>(

@@ -1,17 +1,17 @@
 //! The first name that means no column.
 ghost use Rattle.std.specs.Prelude.{◌≡◌, option_copied};
 ghost use Rattle.std.specs.Option.{option_or};
-ghost use Rattle.wm_base.specs.Views.{cond_view, expr_view, filter_view};
+ghost use Rattle.wm_syntax.specs.Views.{cond_view, expr_view, filter_view};
 ghost use Rattle.wm_typing.specs.Names.{unknown_col, unknown_period, unknown_in_operand, unknown_in_expr, unknown_in_cond, unknown_in_filter};
 
 use crate::first::{first_of, unless};
 use crate::kinds::{kind_named, named_period};
 use wm_base::Column;
-use wm_base::tree::column::Col;
-use wm_base::tree::cond::Cond;
-use wm_base::tree::expr::Expr;
-use wm_base::tree::operand::{Operand, Per};
 use wm_expr::types::kind_at_end;
+use wm_syntax::column::Col;
+use wm_syntax::cond::Cond;
+use wm_syntax::expr::Expr;
+use wm_syntax::operand::{Operand, Per};
 
 /// The name of the column, where it is not exactly one of these, or where an end is asked of a column that has none. That
 /// a table has no WM_VALID is told by another refusal.

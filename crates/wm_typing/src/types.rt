@@ -1,7 +1,7 @@
 //! The kinds of expressions, and the first that is wrong.
 ghost use Rattle.std.specs.Prelude.{◌≡◌, ◌&&◌, codes, option_copied};
 ghost use Rattle.std.specs.List.{list_all};
-ghost use Rattle.wm_base.specs.Views.{cond_view, expr_view, filter_view};
+ghost use Rattle.wm_syntax.specs.Views.{cond_view, expr_view, filter_view};
 ghost use Rattle.wm_spec.specs.Conditions.{may_compare};
 ghost use Rattle.wm_spec.specs.Operands.{constant_kind};
 ghost use Rattle.wm_typing.specs.Names.{named_kind, unless};
@@ -11,11 +11,11 @@ use crate::first::{first_of, unless};
 use crate::kinds::named_kind;
 use wm_base::Column;
 use wm_base::columns::NUMBER;
-use wm_base::tree::cond::{Cmp, Cond};
-use wm_base::tree::constant::Consts;
-use wm_base::tree::expr::Expr;
-use wm_base::tree::operand::Operand;
 use wm_expr::types::{may_compare, may_compare_all};
+use wm_syntax::cond::{Cmp, Cond};
+use wm_syntax::constant::Consts;
+use wm_syntax::expr::Expr;
+use wm_syntax::operand::Operand;
 
 /// The kind of an expression: an operand's own, and that of numbers for arithmetic. It is 0 for NULL, that of periods for
 /// WM_VALID by its name, and None where an operand names what is not there.

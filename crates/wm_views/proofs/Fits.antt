@@ -1,13 +1,13 @@
 -- The rows that are shown of the sources of a query fit their columns.
 use Rattle.std.proofs.Common.{◌≡◌, ℕ, true, List, [], ◌∷◌, Option, Some, None, ap, ◌∙◌}
 use Rattle.std.specs.List.{list_all}
-use Rattle.wm_base.specs.Trees.{Src}
+use Rattle.wm_syntax.specs.Trees.{Src}
 use Rattle.wm_base.specs.declared.columns.Column.{Column}
 use Rattle.wm_base.specs.declared.listing.Listing.{Listing as Source}
 use Rattle.wm_base.specs.declared.row.Row.{Row}
 use Rattle.wm_graph.specs.Parts.{parts_of, table_of}
 use Rattle.wm_graph.specs.Rules.{keep_rules}
-use Rattle.wm_select.specs.Query.{rows_fit}
+use Rattle.wm_joining.specs.Kept.{rows_fit}
 use Rattle.wm_spec.specs.Conditions.{fits}
 use Rattle.wm_spec.specs.declared.record.space.Space.{Space}
 use Rattle.wm_spec.specs.declared.record.stored.Stored.{Stored}

@@ -3,22 +3,24 @@ use Rattle.std.proofs.Common.{◌≡◌, ℕ, ◌+◌, ◌<◌, ◌≤◌, Bool,
 use Rattle.std.proofs.lemmas.List.{drop_all, length-map}
 use Rattle.std.specs.List.{list_all}
 use Rattle.std.specs.Option.{option_map_or}
-use Rattle.wm_base.specs.Trees.{Query, Src}
+use Rattle.wm_syntax.specs.Trees.{Query, Src}
 use Rattle.wm_base.specs.declared.columns.Column.{Column}
 use Rattle.wm_base.specs.declared.listing.Listing.{Listing as Source}
 use Rattle.wm_base.specs.declared.row.Row.{Row}
-use Rattle.wm_base.specs.declared.tree.query.Src.{Src as SrcNode}
+use Rattle.wm_syntax.specs.declared.query.Src.{Src as SrcNode}
 use Rattle.wm_base.specs.declared.value.Value.{Value}
-use Rattle.wm_base.specs.Views.{src_view, srcs_view}
+use Rattle.wm_syntax.specs.Views.{src_view, srcs_view}
 use Rattle.wm_graph.specs.Parts.{Parts, parts_of, table_of}
 use Rattle.wm_graph.specs.Rules.{is_key, is_table, keep_rules, key_of}
 use Rattle.wm_model.proofs.Named.{named_is}
 use Rattle.wm_model.specs.Planning.{tables_in}
 use Rattle.wm_model.specs.Sources.{AreConflicts, AreListed, IsListed, IsSeen, Look}
 use Rattle.wm_model.specs.Step.{answer_rows, columns_in, lost_source, source_name, table_asked}
-use Rattle.wm_select.proofs.NarrowLemmas.{answer_narrowed, narrowed_columns}
-use Rattle.wm_select.specs.Narrowing.{IsNarrowed, AreNarrowed}
-use Rattle.wm_select.specs.Query.{answer_of, columns_of, is_kept, rows_fit}
+use Rattle.wm_select.proofs.NarrowLemmas.{answer_narrowed}
+use Rattle.wm_joining.proofs.NarrowLemmas.{narrowed_columns}
+use Rattle.wm_joining.specs.Narrowing.{IsNarrowed, AreNarrowed}
+use Rattle.wm_select.specs.Query.{answer_of}
+use Rattle.wm_joining.specs.Kept.{columns_of, is_kept, rows_fit}
 use Rattle.wm_spec.specs.Conditions.{fits}
 use Rattle.wm_spec.specs.declared.record.stored.Stored.{Stored}
 use Rattle.wm_spec.specs.declared.record.table.Table.{Table}

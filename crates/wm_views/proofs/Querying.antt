@@ -6,7 +6,7 @@ use Rattle.std.specs.Str.{bytes_eq}
 use Rattle.wm_base.proofs.Plain.{copied_some, nonzero}
 use Rattle.wm_base.specs.declared.columns.Column.{Column}
 use Rattle.wm_base.specs.declared.refusal.Refusal.{Refusal}
-use Rattle.wm_base.specs.Trees.{Query}
+use Rattle.wm_syntax.specs.Trees.{Query}
 use Rattle.wm_graph.specs.Parts.{Parts, space_of}
 use Rattle.wm_graph.specs.Rules.{is_placed, is_short, is_space, keep_rules, live}
 use Rattle.wm_spec.specs.declared.record.space.Space.{Space}

@@ -4,11 +4,11 @@ use Rattle.std.proofs.lemmas.List.{drop_more}
 use Rattle.std.specs.Option.{option_map_or}
 use Rattle.wm_base.specs.declared.columns.Column.{Column}
 use Rattle.wm_base.specs.declared.listing.Listing.{Listing as Source}
-use Rattle.wm_base.specs.declared.tree.query.Src.{Src as SrcNode}
-use Rattle.wm_base.specs.Trees.{Src}
-use Rattle.wm_base.specs.Views.{src_view, srcs_view}
+use Rattle.wm_syntax.specs.declared.query.Src.{Src as SrcNode}
+use Rattle.wm_syntax.specs.Trees.{Src}
+use Rattle.wm_syntax.specs.Views.{src_view, srcs_view}
 use Rattle.wm_graph.specs.Parts.{Parts}
-use Rattle.wm_select.specs.Query.{columns_of}
+use Rattle.wm_joining.specs.Kept.{columns_of}
 use Rattle.wm_spec.specs.declared.record.table.Table.{Table}
 use Rattle.wm_view_rows.specs.Columns.{columns_of_view}
 use Rattle.wm_view_rows.specs.Views.{view_named}

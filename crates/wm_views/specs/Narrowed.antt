@@ -3,9 +3,9 @@ use Rattle.std.specs.Prelude.{ℕ, ◌≡◌, ◌+◌, Bool, true, List, [], ◌
 use Rattle.wm_base.specs.declared.listing.Listing.{Listing as Source}
 use Rattle.wm_base.specs.declared.row.Row.{Row}
 use Rattle.wm_base.specs.declared.value.Value.{Value}
-use Rattle.wm_base.specs.Trees.{Src}
+use Rattle.wm_syntax.specs.Trees.{Src}
 use Rattle.wm_graph.specs.Parts.{Parts}
-use Rattle.wm_image.specs.Listing.{IsKeyShowing}
+use Rattle.wm_version_rows.specs.Listing.{IsKeyShowing}
 use Rattle.wm_model.specs.Sources.{IsSeen, Look}
 use Rattle.wm_model.specs.Step.{source_name, table_asked}
 use Rattle.wm_spec.specs.declared.record.table.Table.{Table}

@@ -4,23 +4,24 @@ ghost use Rattle.std.specs.Option.{IsSomeAnd};
 ghost use Rattle.std.specs.Result.{IsErrOf};
 ghost use Rattle.wm_base.specs.declared.row.Row.{Row as RowOf};
 ghost use Rattle.wm_base.specs.declared.truth.Truth.{Truth as TruthOf};
-ghost use Rattle.wm_base.specs.Views.{cond_view, filter_view, query_view};
+ghost use Rattle.wm_syntax.specs.Views.{cond_view, filter_view, query_view};
 ghost use Rattle.wm_model.specs.Step.{answer_rows};
 ghost use Rattle.wm_plan.specs.Views.{answer_view};
-ghost use Rattle.wm_select.specs.Query.{answer_of, columns_of, projection_lasts, row_limit, rows_fit, where_of};
+ghost use Rattle.wm_select.specs.Query.{answer_of, projection_lasts, row_limit};
+ghost use Rattle.wm_joining.specs.Kept.{columns_of, rows_fit, where_of};
 ghost use Rattle.wm_spec.specs.Conditions.{fits, truth_of, typed};
 
 use std::alloc::Global;
-use wm_base::tree::cond::{Cmp, Cond};
-use wm_base::tree::constant::Const;
-use wm_base::tree::operand::Operand;
-use wm_base::tree::query::Query;
 use wm_base::{Columns, Listings, Memory, Row, RowList, Truth};
 use wm_expr::truth;
 use wm_plan::answer::Answer;
 use wm_plan::refuse::{most_rows, out_of_range};
 use wm_rowtest::{Judge, RowTest};
 use wm_select::SelectFault;
+use wm_syntax::cond::{Cmp, Cond};
+use wm_syntax::constant::Const;
+use wm_syntax::operand::Operand;
+use wm_syntax::query::Query;
 
 /// What stands for a WHERE that is not there: 1 = 1.
 fn always() -> Cond

@@ -1,7 +1,7 @@
 //! What the sources of a query show a session.
 ghost use Rattle.std.specs.Prelude.{◌≡◌, ◌+◌, ◌<◌, ◌≤◌, ◌^◌, length, true, None, IfOk, IfSome};
 ghost use Rattle.wm_base.specs.declared.instant.TheConstants.{END};
-ghost use Rattle.wm_base.specs.Views.{query_view, src_view, srcs_view};
+ghost use Rattle.wm_syntax.specs.Views.{query_view, src_view, srcs_view};
 ghost use Rattle.wm_chosen.specs.Keyed.{FixesKeyAt};
 ghost use Rattle.wm_graph.specs.Parts.{parts_of};
 ghost use Rattle.wm_graph.specs.Rules.{is_table, keep_rules};
@@ -9,7 +9,7 @@ ghost use Rattle.wm_model.specs.Looking.{IsLook};
 ghost use Rattle.wm_model.specs.Planning.{tables_in};
 ghost use Rattle.wm_model.specs.Sources.{AreConflicts};
 ghost use Rattle.wm_model.specs.Step.{columns_in, lost_source, source_name};
-ghost use Rattle.wm_select.specs.Query.{is_kept};
+ghost use Rattle.wm_joining.specs.Kept.{is_kept};
 ghost use Rattle.wm_view_rows.specs.Columns.{columns_of_view};
 ghost use Rattle.wm_view_rows.specs.Views.{view_named};
 ghost use Rattle.wm_view_rows.specs.declared.view.View.TheVariants as views;
@@ -19,7 +19,6 @@ ghost use Rattle.wm_views.specs.Narrowed.{AreListedFor, AreShown, may_narrow};
 use crate::looking::Look;
 use crate::sources::{source_name, table_asked};
 use std::alloc::Global;
-use wm_base::tree::query::{Query, Src};
 use wm_base::{Column, Key, Listing, Listings, Memory, RowList};
 use wm_chosen::keyed::key_asked_at;
 use wm_conflicts::conflict_view;
@@ -27,6 +26,8 @@ use wm_history::history_view;
 use wm_image::Image;
 use wm_plan::within::within;
 use wm_spec::record::Table;
+use wm_syntax::query::{Query, Src};
+use wm_version_rows::listing::{showing, showing_of_key};
 use wm_view_rows::columns::columns_of_view;
 use wm_view_rows::view::{View, view_named};
 
@@ -44,8 +45,8 @@ fn rows_shown(
 {
     let within = within(look.moment, look.session, table);
     match key {
-        Some(key) => image.showing_of_key(alloc, look.version, table, &within, &key),
-        None => image.showing(alloc, look.version, table, &within),
+        Some(key) => showing_of_key(alloc, image, look.version, table, &within, &key),
+        None => showing(alloc, image, look.version, table, &within),
     }
 }
 

@@ -1,7 +1,7 @@
 //! What a session looks at: a version, the workspace in which it stands, and the one whose conflicts it looks at.
 ghost use Rattle.std.specs.Prelude.{◌≡◌, Some, true};
 ghost use Rattle.std.specs.Option.{option_copied};
-ghost use Rattle.wm_base.specs.Views.{srcs_view};
+ghost use Rattle.wm_syntax.specs.Views.{srcs_view};
 ghost use Rattle.wm_graph.specs.Parts.{parts_of, space_of};
 ghost use Rattle.wm_graph.specs.Rules.{keep_rules};
 ghost use Rattle.wm_model.specs.Looking.{IsFamilyOf, IsLook, conflicting_space, lost_name, lost_space};
@@ -12,10 +12,10 @@ ghost use Rattle.wm_view_rows.specs.Views.{is_conflicts};
 ghost use Rattle.wm_views.specs.Looking.{family_view, look_view};
 
 use wm_base::Name;
-use wm_base::tree::query::Src;
 use wm_image::Image;
 use wm_plan::session::{Session, Stand};
 use wm_spec::record::Space;
+use wm_syntax::query::Src;
 use wm_view_rows::view::{View, view_named};
 
 /// A workspace and its parent.

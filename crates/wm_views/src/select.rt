@@ -1,7 +1,7 @@
 //! SELECT.
 ghost use Rattle.std.specs.Prelude.{◌≡◌, ◌<◌, List, true, false, None, IfOk};
 ghost use Rattle.wm_base.specs.declared.instant.TheConstants.{END};
-ghost use Rattle.wm_base.specs.Views.{filter_view, query_view};
+ghost use Rattle.wm_syntax.specs.Views.{filter_view, query_view};
 ghost use Rattle.wm_graph.specs.Parts.{parts_of};
 ghost use Rattle.wm_graph.specs.Rules.{keep_rules};
 ghost use Rattle.wm_model.specs.Looking.{IsLook};
@@ -10,7 +10,8 @@ ghost use Rattle.wm_model.specs.Step.{columns_in, lost_source, select, table_off
 ghost use Rattle.wm_plan.specs.Idle.{Idles};
 ghost use Rattle.wm_plan.specs.Planning.{DoesIt};
 ghost use Rattle.wm_plan.specs.Views.{answer_view};
-ghost use Rattle.wm_select.specs.Query.{projection_lasts, where_of};
+ghost use Rattle.wm_select.specs.Query.{projection_lasts};
+ghost use Rattle.wm_joining.specs.Kept.{where_of};
 ghost use Rattle.wm_spec.specs.Conditions.{typed};
 ghost use Rattle.wm_state.specs.State.{Session as SessionState};
 ghost use Rattle.wm_views.specs.Looking.{IsAnswered, look_view};
@@ -20,7 +21,6 @@ use crate::listing::sources_in;
 use crate::looking::{Look, look_of, lost_space};
 use crate::sources::{columns_in, lost_history, lost_source, table_off};
 use std::alloc::Global;
-use wm_base::tree::query::Query;
 use wm_base::{Columns, Memory};
 use wm_image::Image;
 use wm_plan::answer::Answer;
@@ -28,6 +28,7 @@ use wm_plan::planned::Planned;
 use wm_plan::refuse::{empty_period, no_history, no_table, no_workspace, not_built, versioning};
 use wm_plan::session::Session;
 use wm_query_faults::query_fault;
+use wm_syntax::query::Query;
 
 /// What a query answers over what its sources show a session. These are the columns of all sources.
 fn answer_over(

@@ -1,7 +1,7 @@
 //! The sources of a query: the table that each is of, what it is called, its columns, and what is lost among them.
 ghost use Rattle.std.specs.Prelude.{◌≡◌, ◌++◌, true, IfOk, OnOk};
 ghost use Rattle.std.specs.Option.{option_copied};
-ghost use Rattle.wm_base.specs.Views.{src_view, srcs_view};
+ghost use Rattle.wm_syntax.specs.Views.{src_view, srcs_view};
 ghost use Rattle.wm_graph.specs.Parts.{parts_of};
 ghost use Rattle.wm_graph.specs.Rules.{keep_rules};
 ghost use Rattle.wm_model.specs.Planning.{tables_in};
@@ -9,10 +9,10 @@ ghost use Rattle.wm_model.specs.Step.{columns_in, lacks_history, lost_history, l
 ghost use Rattle.wm_view_rows.specs.Views.{is_history};
 
 use std::alloc::Global;
-use wm_base::tree::query::Src;
 use wm_base::{Column, Columns, Memory, Name};
 use wm_image::Image;
 use wm_spec::record::Table;
+use wm_syntax::query::Src;
 use wm_view_rows::columns::columns_of_view;
 use wm_view_rows::view::{View, table_sought, view_named};
 

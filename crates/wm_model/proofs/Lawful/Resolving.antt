@@ -1,7 +1,7 @@
 -- The four calls that resolve conflicts leave a lawful state.
 use Rattle.std.proofs.Common.{◌≡◌, ℕ, ◌+◌, ◌-◌, Bool, List, [], ◌∷◌, length, unwrap_or, Option, Some, None, refl, ◌∙◌}
 use Rattle.std.specs.List.{find, flat_map}
-use Rattle.wm_base.specs.Trees.{Cond}
+use Rattle.wm_syntax.specs.Trees.{Cond}
 use Rattle.wm_decided.specs.Deciding.{decisions_in}
 use Rattle.wm_decided.specs.Keys.{meets_key}
 use Rattle.wm_decided.specs.Netted.{entries_decided, marks_of}

@@ -6,7 +6,7 @@ use Rattle.std.specs.List.{list_all, filter_map, cons_option}
 use Rattle.std.specs.Bool.{then_some}
 use Rattle.std.specs.Option.{option_map_or, option_or, option_and_then}
 use Rattle.wm_base.specs.Period.{Span, overlaps}
-use Rattle.wm_base.specs.Trees.{Cond, Set}
+use Rattle.wm_syntax.specs.Trees.{Cond, Set}
 use Rattle.wm_base.specs.declared.row.Row.{Row}
 use Rattle.wm_base.specs.declared.value.Value.{Value}
 use Rattle.wm_base.specs.declared.value.Value.TheVariants as values

@@ -5,11 +5,11 @@ use Rattle.std.proofs.lemmas.Option.{same_Some}
 use Rattle.std.specs.List.{find, list_all}
 use Rattle.std.specs.Str.{bytes_eq, is_utf8}
 use Rattle.wm_base.specs.Period.{Span}
-use Rattle.wm_base.specs.Trees.{Cond, Connect, Create, Call, Delete, Disconnect, Expr, Insert, Line, At as AtMoment, Query, Run, Select, Set, Statement, Update}
+use Rattle.wm_syntax.specs.Trees.{Cond, Connect, Create, Call, Delete, Disconnect, Expr, Insert, Line, At as AtMoment, Query, Run, Select, Set, Statement, Update}
 use Rattle.wm_base.specs.declared.refusal.Refusal.{Refusal}
 use Rattle.wm_base.specs.declared.row.Row.{Row}
-use Rattle.wm_base.specs.declared.tree.statement.Arg.{Arg}
-use Rattle.wm_base.specs.declared.tree.statement.CreateItem.{CreateItem}
+use Rattle.wm_syntax.specs.declared.statement.Arg.{Arg}
+use Rattle.wm_syntax.specs.declared.statement.CreateItem.{CreateItem}
 use Rattle.wm_base.specs.declared.value.Value.{Value}
 use Rattle.wm_calls.specs.Later.{is_later}
 use Rattle.wm_dml.specs.Changing.{added, chosen, gone, replacing, row_key, rows_fault, sets_period, updated_rows}

@@ -10,7 +10,7 @@ use Rattle.wm_base.specs.declared.columns.Column.{Column}
 use Rattle.wm_base.specs.declared.listing.Listing.{Listing as Source}
 use Rattle.wm_base.specs.declared.refusal.Refusal.{Refusal}
 use Rattle.wm_base.specs.declared.row.Row.{Row}
-use Rattle.wm_base.specs.Trees.{Query, Src}
+use Rattle.wm_syntax.specs.Trees.{Query, Src}
 use Rattle.wm_select.specs.Query.{answer_of, row_limit}
 use Rattle.wm_query_faults.specs.Asking.{query_fault}
 use Rattle.wm_state.specs.State.{State, Session, Workspace, seen_from, table_named, workspace_named}

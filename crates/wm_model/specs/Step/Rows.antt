@@ -8,7 +8,7 @@ use Rattle.wm_spec.specs.Stretches.{rows_of_key}
 use Rattle.wm_spec.specs.declared.record.table.Table.{Table}
 use Rattle.wm_base.specs.declared.refusal.Refusal.{Refusal}
 use Rattle.wm_base.specs.declared.row.Row.{Row}
-use Rattle.wm_base.specs.Trees.{Cond, Expr, Set}
+use Rattle.wm_syntax.specs.Trees.{Cond, Expr, Set}
 use Rattle.wm_dml.specs.Changing.{added, chosen, gone, row_key, sets_period, updated_rows, rows_fault, replacing}
 use Rattle.wm_dml.specs.Moving.{clash_in, moves_of, moving, shifts_of}
 use Rattle.wm_dml.specs.Standing.{change_keys}

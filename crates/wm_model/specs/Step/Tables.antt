@@ -2,7 +2,7 @@
 use Rattle.std.specs.Prelude.{ℕ, List, [], ◌∷◌, ◌++◌, Bool, true, not, ◌||◌, nat_le, nat_lt, if◌then◌else◌, length, is_some, Option}
 use Rattle.wm_graph.specs.Rules.{has_key}
 use Rattle.wm_spec.specs.declared.record.table.Table.{Table}
-use Rattle.wm_base.specs.declared.tree.statement.CreateItem.{CreateItem}
+use Rattle.wm_syntax.specs.declared.statement.CreateItem.{CreateItem}
 use Rattle.wm_making.specs.Creating.{names_fault, shape_fault, table_of}
 use Rattle.wm_state.specs.State.{State, Readiness, enabled, table_named, next_table}
 use Rattle.wm_print.specs.Texts.{Answer, Fine}

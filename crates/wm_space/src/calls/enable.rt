@@ -14,7 +14,6 @@ ghost use Rattle.wm_state.specs.State.{Session as SessionState};
 
 use crate::enable::{Readiness, enable};
 use std::alloc::Global;
-use wm_base::tree::statement::Arg;
 use wm_base::{Memory, Text};
 use wm_calls::{is_true_given, text_given};
 use wm_grammar::{Parameter, Procedure};
@@ -23,6 +22,7 @@ use wm_plan::given::{fault_of, lacking};
 use wm_plan::planned::Planned;
 use wm_plan::session::Session;
 use wm_reader::capitals_of;
+use wm_syntax::statement::Arg;
 
 /// Whether a table keeps its history by this word.
 fn keeps_history(alloc: Global, word: Option<&Text>) -> Result<bool, Memory>

@@ -11,13 +11,13 @@ ghost use Rattle.wm_state.specs.State.{Session as SessionState};
 use crate::looking::set_conflict_workspace;
 use std::alloc::Global;
 use wm_base::Memory;
-use wm_base::tree::statement::Arg;
 use wm_grammar::{Parameter, Procedure};
 use wm_image::Image;
 use wm_plan::given::{bytes_given, fault_of};
 use wm_plan::planned::Planned;
 use wm_plan::refuse::mistyped;
 use wm_plan::session::Session;
+use wm_syntax::statement::Arg;
 
 /// SetConflictWorkspace.
 pub fn conflict_workspace_call(

@@ -11,7 +11,6 @@ ghost use Rattle.wm_plan.specs.Planning.{DoesIt};
 use crate::removing::remove_workspace;
 use crate::rolling::rollback_to;
 use std::alloc::Global;
-use wm_base::tree::statement::Arg;
 use wm_base::{Memory, Name};
 use wm_calls::text_given;
 use wm_grammar::{Parameter, Procedure};
@@ -21,6 +20,7 @@ use wm_plan::names::is_latest;
 use wm_plan::planned::Planned;
 use wm_plan::refuse::{mistyped, reserved_name};
 use wm_plan::session::Session;
+use wm_syntax::statement::Arg;
 
 /// RollbackToSP.
 pub fn rollback_call(

@@ -10,7 +10,6 @@ ghost use Rattle.wm_state.specs.State.{Session as SessionState};
 
 use crate::valid_time::set_valid_time;
 use std::alloc::Global;
-use wm_base::tree::statement::Arg;
 use wm_base::{Instant, Memory};
 use wm_calls::moment_given;
 use wm_grammar::{Parameter, Procedure};
@@ -19,6 +18,7 @@ use wm_plan::given::fault_of;
 use wm_plan::planned::Planned;
 use wm_plan::refuse::mistyped;
 use wm_plan::session::Session;
+use wm_syntax::statement::Arg;
 
 /// SetValidTime.
 pub fn valid_time_call(

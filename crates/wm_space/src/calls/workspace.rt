@@ -14,7 +14,6 @@ ghost use Rattle.wm_model.specs.Step.{call};
 use crate::bearing::create_workspace;
 use std::alloc::Global;
 use wm_base::Memory;
-use wm_base::tree::statement::Arg;
 use wm_calls::text_given;
 use wm_grammar::{Parameter, Procedure};
 use wm_image::Image;
@@ -23,6 +22,7 @@ use wm_plan::names::{is_name, names_no_workspace};
 use wm_plan::planned::Planned;
 use wm_plan::refuse::{bad_name, mistyped, reserved_name};
 use wm_plan::session::Session;
+use wm_syntax::statement::Arg;
 
 /// CreateWorkspace.
 pub fn workspace_call(

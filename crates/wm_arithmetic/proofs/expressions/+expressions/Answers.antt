@@ -1,6 +1,6 @@
 use Rattle.std.proofs.Common.{[], ◌∷◌, sym, ap, refl}
-use Rattle.wm_base.specs.Trees.{Expr}
-use Rattle.wm_base.specs.Views.{expr_view}
+use Rattle.wm_syntax.specs.Trees.{Expr}
+use Rattle.wm_syntax.specs.Views.{expr_view}
 use Rattle.wm_grammar.specs.Sorts as sorts
 use Rattle.wm_grammar.specs.Expressions.{products, sums}
 use Rattle.wm_grammar.specs.ExpressionReaders.{times_at, term_at, signed_term_at, expr_of_at, factor_at}

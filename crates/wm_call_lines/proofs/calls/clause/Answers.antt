@@ -1,6 +1,6 @@
 use Rattle.std.proofs.Common.{◌≡◌, ℕ, List, length, sym, ap, ◌∙◌, arith, Bool, true, false}
 use Rattle.std.specs.Prelude.{◌==◌}
-use Rattle.wm_base.specs.Views.{cond_view}
+use Rattle.wm_syntax.specs.Views.{cond_view}
 use Rattle.wm_grammar.specs.Meaning.{unquoted}
 use Rattle.wm_grammar.specs.Next.{next_text}
 use Rattle.wm_terms.proofs.Texts.{unquoted_short}

@@ -1,6 +1,6 @@
 use Rattle.std.proofs.Common.{◌≡◌, ◌≤◌}
-use Rattle.wm_base.specs.Views.{cond_view}
-use Rattle.wm_base.specs.declared.tree.cond.Cond.{size-Cond}
+use Rattle.wm_syntax.specs.Views.{cond_view}
+use Rattle.wm_syntax.specs.declared.cond.Cond.{size-Cond}
 use Rattle.wm_calls.specs.Empty.{cond_has_empty}
 use Rattle.wm_calls.proofs.empty.+cond_has_empty.Given as goal
 

@@ -1,6 +1,6 @@
 use Rattle.std.proofs.Common.{◌≡◌, ◌≤◌}
-use Rattle.wm_base.specs.Views.{expr_view}
-use Rattle.wm_base.specs.declared.tree.expr.Expr.{size-Expr}
+use Rattle.wm_syntax.specs.Views.{expr_view}
+use Rattle.wm_syntax.specs.declared.expr.Expr.{size-Expr}
 use Rattle.wm_calls.specs.Empty.{expr_has_empty}
 use Rattle.wm_calls.proofs.empty.+expr_has_empty.Given as goal
 

@@ -1,6 +1,6 @@
 use Rattle.std.proofs.Common.{◌≡◌, drop}
 use Rattle.std.specs.List.{list_any}
-use Rattle.wm_base.specs.Views.{outs_view}
+use Rattle.wm_syntax.specs.Views.{outs_view}
 use Rattle.wm_calls.specs.Empty.{out_has_empty}
 use Rattle.wm_calls.proofs.empty.any_out.Given as goal
 

@@ -1,6 +1,6 @@
 use Rattle.std.proofs.Common.{◌≡◌, drop}
 use Rattle.std.specs.List.{list_any}
-use Rattle.wm_base.specs.Views.{srcs_view}
+use Rattle.wm_syntax.specs.Views.{srcs_view}
 use Rattle.wm_calls.specs.Later.{is_later_source}
 use Rattle.wm_calls.proofs.later.any_later.Given as goal
 

@@ -1,6 +1,6 @@
 use Rattle.std.proofs.Common.{length, refl, sym, ap, ◌∙◌}
 use Rattle.std.specs.List.{list_all}
-use Rattle.wm_base.specs.Views.{sets_view}
+use Rattle.wm_syntax.specs.Views.{sets_view}
 use Rattle.wm_dml.specs.Moving.{moved_row}
 use Rattle.wm_dml.specs.declared.moving.Move.{Move}
 use Rattle.wm_model.proofs.Changing.{changes_moved, changes_replaced}

@@ -1,5 +1,5 @@
 use Rattle.std.proofs.Common.{Some, refl, sym, ap, subst, ◌∙◌}
-use Rattle.wm_base.specs.Views.{sets_view}
+use Rattle.wm_syntax.specs.Views.{sets_view}
 use Rattle.wm_dml.specs.Changing.{rows_fault, updated_rows}
 use Rattle.wm_dml.specs.Standing.{MayReplace}
 use Rattle.wm_model.proofs.Changing.{replaces, replaces_none, replaces_wrong}

@@ -1,5 +1,5 @@
 use Rattle.std.proofs.Common.{[], false, sym, ap, ◌∙◌}
-use Rattle.wm_base.specs.Views.{filter_view, sets_view}
+use Rattle.wm_syntax.specs.Views.{filter_view, sets_view}
 use Rattle.wm_dml.specs.Changing.{all_overlap, own_columns}
 use Rattle.wm_graph.specs.Parts.{parts_of, space_of}
 use Rattle.wm_model.proofs.Named.{named_is, ready_keyed}

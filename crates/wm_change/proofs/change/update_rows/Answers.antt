@@ -1,5 +1,5 @@
 use Rattle.std.proofs.Common.{sym, ap, ◌∙◌}
-use Rattle.wm_base.specs.Views.{sets_view}
+use Rattle.wm_syntax.specs.Views.{sets_view}
 use Rattle.wm_model.specs.Step.{not_built}
 use Rattle.wm_change.proofs.Acting.{answers_full}
 use Rattle.wm_change.proofs.Filled.{keyed_stand}

@@ -1,5 +1,5 @@
 use Rattle.std.proofs.Common.{[], sym, ap, ◌∙◌}
-use Rattle.wm_base.specs.Views.{exprs_view}
+use Rattle.wm_syntax.specs.Views.{exprs_view}
 use Rattle.wm_graph.specs.Parts.{parts_of, space_of}
 use Rattle.wm_model.proofs.Homes.{does_homeless}
 use Rattle.wm_model.proofs.Newest.{newest_elsewhere, newest_empty}

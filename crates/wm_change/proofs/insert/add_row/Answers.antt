@@ -1,5 +1,5 @@
 use Rattle.std.proofs.Common.{refl, sym, ap, ◌∙◌}
-use Rattle.wm_base.specs.Views.{exprs_view}
+use Rattle.wm_syntax.specs.Views.{exprs_view}
 use Rattle.wm_making.specs.Rows.{row_fault, row_of}
 use Rattle.wm_model.proofs.Changing.{adds, adds_none, adds_wrong}
 use Rattle.wm_model.proofs.Named.{named_is}

@@ -1,5 +1,5 @@
 use Rattle.std.proofs.Common.{[], false, sym, ap, ◌∙◌}
-use Rattle.wm_base.specs.Views.{exprs_view}
+use Rattle.wm_syntax.specs.Views.{exprs_view}
 use Rattle.wm_model.proofs.Newest.{newest_none, newest_off, newest_faulty}
 use Rattle.wm_model.specs.Planning.{Stay, named}
 use Rattle.wm_model.specs.Step.{insert, no_table, versioning}

@@ -1,6 +1,6 @@
 use Rattle.std.proofs.Common.{sym, ap}
-use Rattle.wm_base.specs.Views.{cond_view, filter_view}
-use Rattle.wm_select.specs.Query.{where_of}
+use Rattle.wm_syntax.specs.Views.{cond_view, filter_view}
+use Rattle.wm_joining.specs.Kept.{where_of}
 use Rattle.wm_chosen.proofs.ChosenRows.{kept_all, kept_so}
 use Rattle.wm_chosen.proofs.choosing.chosen_of.Goals as goal
 

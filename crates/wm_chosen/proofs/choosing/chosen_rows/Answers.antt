@@ -1,4 +1,4 @@
-use Rattle.wm_base.specs.Views.{filter_view}
+use Rattle.wm_syntax.specs.Views.{filter_view}
 use Rattle.wm_chosen.proofs.ChosenRows.{are_read}
 use Rattle.wm_chosen.proofs.choosing.chosen_rows.Goals as goal
 

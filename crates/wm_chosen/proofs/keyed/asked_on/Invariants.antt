@@ -1,5 +1,5 @@
 use Rattle.std.proofs.Common.{◌≡◌, drop}
-use Rattle.wm_base.specs.Views.{srcs_view}
+use Rattle.wm_syntax.specs.Views.{srcs_view}
 use Rattle.wm_chosen.specs.Keyed.{asked_on}
 use Rattle.wm_chosen.proofs.keyed.asked_on.Given as goal
 

@@ -1,6 +1,6 @@
 use Rattle.std.proofs.Common.{◌≡◌, ◌∷◌, [], get_or, sym, ap, ◌∙◌, arith}
 use Rattle.std.specs.Option.{option_copied}
-use Rattle.wm_base.specs.Views.{cond_view, filter_view}
+use Rattle.wm_syntax.specs.Views.{cond_view, filter_view}
 use Rattle.wm_chosen.proofs.KeyAsked.{alone, key_fixed}
 use Rattle.wm_chosen.specs.Keyed.{asked}
 use Rattle.wm_chosen.proofs.keyed.key_asked.Goals as goal

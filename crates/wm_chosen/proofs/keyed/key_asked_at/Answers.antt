@@ -1,6 +1,6 @@
 use Rattle.std.proofs.Common.{◌≡◌, ◌+◌, ◌∷◌, [], get_or, sym, ap, ◌∙◌, arith}
 use Rattle.std.specs.Option.{option_copied}
-use Rattle.wm_base.specs.Views.{query_view}
+use Rattle.wm_syntax.specs.Views.{query_view}
 use Rattle.wm_chosen.proofs.KeyAsked.{alone}
 use Rattle.wm_chosen.proofs.KeyAskedAt.{key_fixed_at}
 use Rattle.wm_chosen.proofs.keyed.key_asked_at.Goals as goal

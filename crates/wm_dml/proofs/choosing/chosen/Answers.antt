@@ -1,6 +1,6 @@
 use Rattle.std.proofs.Common.{ap, ◌∙◌}
 use Rattle.std.specs.List.{list_all}
-use Rattle.wm_base.specs.Views.{cond_view}
+use Rattle.wm_syntax.specs.Views.{cond_view}
 use Rattle.wm_base.specs.declared.row.Row.{Row}
 use Rattle.wm_graph.specs.Rules.{differ}
 use Rattle.wm_spec.specs.Conditions.{truth_of, is_yes}

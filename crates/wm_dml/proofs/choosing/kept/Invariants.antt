@@ -1,5 +1,5 @@
 use Rattle.std.proofs.Common.{◌≡◌, filter}
-use Rattle.wm_base.specs.Views.{cond_view}
+use Rattle.wm_syntax.specs.Views.{cond_view}
 use Rattle.wm_spec.specs.Conditions.{truth_of, is_yes}
 use Rattle.wm_dml.proofs.choosing.kept.Given as goal
 

@@ -1,5 +1,5 @@
 use Rattle.std.specs.Vec.Iter.{into_iter_items, into_iter_len}
-use Rattle.wm_base.specs.Views.{sets_view}
+use Rattle.wm_syntax.specs.Views.{sets_view}
 use Rattle.wm_dml.proofs.Shifted.{Moving}
 use Rattle.wm_dml.proofs.moving.all_moves.Given as goal
 

@@ -1,6 +1,6 @@
 use Rattle.std.proofs.Common.{ap, ◌∙◌}
 use Rattle.std.specs.List.{list_all}
-use Rattle.wm_base.specs.Views.{sets_view}
+use Rattle.wm_syntax.specs.Views.{sets_view}
 use Rattle.wm_dml.specs.Moving.{moved_row}
 use Rattle.wm_dml.specs.Standing.{is_change}
 use Rattle.wm_dml.specs.declared.moving.Move.{Move}

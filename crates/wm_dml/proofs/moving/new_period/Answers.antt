@@ -1,8 +1,8 @@
 use Rattle.std.proofs.Common.{sym, ap, ◌∙◌}
 use Rattle.std.specs.Option.{option_copied, option_map}
 use Rattle.std.specs.Str.{bytes_eq}
-use Rattle.wm_base.specs.Trees.{Set}
-use Rattle.wm_base.specs.Views.{set_view, sets_view}
+use Rattle.wm_syntax.specs.Trees.{Set}
+use Rattle.wm_syntax.specs.Views.{set_view, sets_view}
 use Rattle.wm_spec.specs.Expressions.{has_no_empty_period}
 use Rattle.wm_spec.specs.Operands.{wm_valid}
 use Rattle.wm_dml.proofs.Picked.{found_passes}

@@ -4,7 +4,7 @@ use Rattle.std.proofs.lemmas.Fn.{always_returns_same}
 use Rattle.std.proofs.lemmas.List.Sorted.{ranks_by}
 use Rattle.std.specs.Cmp.{IsStrictWeakOrder}
 use Rattle.wm_base.specs.Orders.{key_order_total}
-use Rattle.wm_select.proofs.SortLemmas.{sorted_is}
+use Rattle.wm_ordering.proofs.SortLemmas.{sorted_is}
 use Rattle.wm_dml.specs.Moving.{goes_before}
 use Rattle.wm_dml.specs.declared.change.RowChange.{RowChange}
 use Rattle.wm_dml.proofs.moving.sort_changes.Goals as goal

@@ -4,7 +4,7 @@ use Rattle.std.proofs.lemmas.List.Sorted.{ranks_by}
 use Rattle.std.specs.Cmp.{IsStrictWeakOrder}
 use Rattle.wm_base.specs.Orders.{span_order_total}
 use Rattle.wm_base.specs.Period.{Span}
-use Rattle.wm_select.proofs.SortLemmas.{sorted_is}
+use Rattle.wm_ordering.proofs.SortLemmas.{sorted_is}
 use Rattle.wm_dml.specs.Moving.{begins_before}
 use Rattle.wm_dml.proofs.moving.sort_periods.Goals as goal
 

@@ -1,8 +1,8 @@
 use Rattle.std.proofs.Common.{◌≡◌, drop}
 use Rattle.std.specs.List.{list_any}
 use Rattle.std.specs.Str.{bytes_eq}
-use Rattle.wm_base.specs.Trees.{Set}
-use Rattle.wm_base.specs.Views.{sets_view}
+use Rattle.wm_syntax.specs.Trees.{Set}
+use Rattle.wm_syntax.specs.Views.{sets_view}
 use Rattle.wm_spec.specs.Operands.{wm_valid}
 use Rattle.wm_dml.proofs.updated.is_valid_set.Given as goal
 

@@ -1,6 +1,6 @@
 use Rattle.std.proofs.Common.{◌≡◌, ◌++◌, drop}
 use Rattle.std.specs.Prelude.{option_map}
-use Rattle.wm_base.specs.Views.{sets_view}
+use Rattle.wm_syntax.specs.Views.{sets_view}
 use Rattle.wm_dml.specs.Changing.{set_values}
 use Rattle.wm_dml.proofs.updated.set_values.Given as goal
 

@@ -1,4 +1,4 @@
-use Rattle.wm_base.specs.Views.{sets_view}
+use Rattle.wm_syntax.specs.Views.{sets_view}
 use Rattle.wm_dml.proofs.Changed.{made_as_many}
 use Rattle.wm_dml.proofs.updated.updated_rows.Goals as goal
 

@@ -1,8 +1,8 @@
 use Rattle.std.proofs.Common.{◌≡◌, ◌≤◌, ◌+◌, ◌*◌}
 use Rattle.wm_base.specs.Truth.{truth_and, truth_or}
-use Rattle.wm_base.specs.Views.{cond_view}
+use Rattle.wm_syntax.specs.Views.{cond_view}
 use Rattle.wm_spec.specs.Conditions.{truth_in}
-use Rattle.wm_base.specs.declared.tree.cond.Cond.{size-Cond}
+use Rattle.wm_syntax.specs.declared.cond.Cond.{size-Cond}
 use Rattle.wm_expr.proofs.conditions.+truths.Given as goal
 
 abbrev pub decreases-truth_in : goal.decreases-truth_in

@@ -1,7 +1,7 @@
 use Rattle.std.proofs.Common.{◌≡◌, ◌≤◌}
-use Rattle.wm_base.specs.Views.{cond_view}
+use Rattle.wm_syntax.specs.Views.{cond_view}
 use Rattle.wm_spec.specs.Conditions.{typed_in}
-use Rattle.wm_base.specs.declared.tree.cond.Cond.{size-Cond}
+use Rattle.wm_syntax.specs.declared.cond.Cond.{size-Cond}
 use Rattle.wm_expr.proofs.types.+is_typed.Given as goal
 
 abbrev pub invariant-loop-rest : goal.invariant-loop-rest

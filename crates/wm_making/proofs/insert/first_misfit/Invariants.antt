@@ -1,5 +1,5 @@
 use Rattle.std.proofs.Common.{◌≡◌, drop}
-use Rattle.wm_base.specs.Views.{exprs_view}
+use Rattle.wm_syntax.specs.Views.{exprs_view}
 use Rattle.wm_making.specs.Inserting.{misfit_from}
 use Rattle.wm_making.proofs.insert.first_misfit.Given as goal
 

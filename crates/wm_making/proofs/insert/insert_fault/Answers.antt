@@ -1,5 +1,5 @@
 use Rattle.std.proofs.Common.{sym, ◌∙◌}
-use Rattle.wm_base.specs.Views.{exprs_view}
+use Rattle.wm_syntax.specs.Views.{exprs_view}
 use Rattle.wm_making.proofs.Given.{given_written, given_plain, others_last}
 use Rattle.wm_making.proofs.insert.insert_fault.Goals as goal
 

@@ -1,6 +1,6 @@
 use Rattle.std.proofs.Common.{sym, ap, ◌∙◌}
 use Rattle.std.specs.Option.{option_copied, option_map}
-use Rattle.wm_base.specs.Views.{expr_view, exprs_view}
+use Rattle.wm_syntax.specs.Views.{expr_view, exprs_view}
 use Rattle.wm_spec.specs.Expressions.{has_no_empty_period}
 use Rattle.wm_making.proofs.Placed.{value_passes}
 use Rattle.wm_making.proofs.period.period_given.Goals as goal

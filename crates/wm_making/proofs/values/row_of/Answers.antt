@@ -1,4 +1,4 @@
-use Rattle.wm_base.specs.Views.{exprs_view}
+use Rattle.wm_syntax.specs.Views.{exprs_view}
 use Rattle.wm_making.proofs.Filled.{row_filled}
 use Rattle.wm_making.proofs.values.row_of.Goals as goal
 

@@ -1,7 +1,7 @@
 use Rattle.std.proofs.Common.{◌≡◌, true, ◌++◌, drop}
 use Rattle.std.specs.List.{list_all}
 use Rattle.std.specs.Prelude.{option_map}
-use Rattle.wm_base.specs.Views.{exprs_view}
+use Rattle.wm_syntax.specs.Views.{exprs_view}
 use Rattle.wm_spec.specs.Expressions.{has_no_empty_period}
 use Rattle.wm_making.specs.Rows.{values_of}
 use Rattle.wm_making.proofs.values.values_of.Given as goal

@@ -1,5 +1,5 @@
 use Rattle.std.proofs.Common.{refl}
-use Rattle.wm_base.specs.Views.{out_view, outs_view}
+use Rattle.wm_syntax.specs.Views.{out_view, outs_view}
 use Rattle.wm_grammar.specs.QueryReaders.{next_at, list_of_at, out_at}
 use Rattle.wm_grammar.specs.Sorts as sorts
 use Rattle.wm_grammar.proofs.Laws.{mark_exact, then_exact}

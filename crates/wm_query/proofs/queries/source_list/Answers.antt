@@ -1,5 +1,5 @@
 use Rattle.std.proofs.Common.{refl}
-use Rattle.wm_base.specs.Views.{src_view, srcs_view}
+use Rattle.wm_syntax.specs.Views.{src_view, srcs_view}
 use Rattle.wm_grammar.specs.QueryReaders.{source_list_at}
 use Rattle.wm_grammar.proofs.Loops.{takes_one}
 use Rattle.wm_grammar.proofs.QueryLaws.{next_source_exact}

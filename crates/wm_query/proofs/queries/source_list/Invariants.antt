@@ -1,5 +1,5 @@
 use Rattle.std.proofs.Common.{length}
-use Rattle.wm_base.specs.Views.{srcs_view}
+use Rattle.wm_syntax.specs.Views.{srcs_view}
 use Rattle.wm_grammar.specs.QueryReaders.{source_list_at}
 use Rattle.wm_query.proofs.Sources.{Sources}
 use Rattle.wm_query.proofs.queries.source_list.Given as goal

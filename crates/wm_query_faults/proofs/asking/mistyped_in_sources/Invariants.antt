@@ -1,5 +1,5 @@
 use Rattle.std.proofs.Common.{◌≡◌, drop}
-use Rattle.wm_base.specs.Views.{srcs_view}
+use Rattle.wm_syntax.specs.Views.{srcs_view}
 use Rattle.wm_query_faults.specs.Asking.{mistyped_in_sources}
 use Rattle.wm_query_faults.proofs.asking.mistyped_in_sources.Given as goal
 

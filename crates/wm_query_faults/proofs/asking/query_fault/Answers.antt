@@ -1,5 +1,5 @@
 use Rattle.std.proofs.Common.{ap, sym, ◌∙◌}
-use Rattle.wm_base.specs.Views.{query_view}
+use Rattle.wm_syntax.specs.Views.{query_view}
 use Rattle.wm_query_faults.specs.Asking.{query_fault_in}
 use Rattle.wm_query_faults.proofs.Typed.{query_typed, sources_typed}
 use Rattle.wm_query_faults.proofs.asking.query_fault.Goals as goal

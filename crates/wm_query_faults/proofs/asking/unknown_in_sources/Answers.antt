@@ -1,6 +1,6 @@
 use Rattle.std.proofs.Common.{refl}
-use Rattle.wm_base.specs.Views.{filter_view, srcs_view}
-use Rattle.wm_base.specs.declared.tree.query.Src.{Src}
+use Rattle.wm_syntax.specs.Views.{filter_view, srcs_view}
+use Rattle.wm_syntax.specs.declared.query.Src.{Src}
 use Rattle.wm_query_faults.specs.Asking.{unknown_in_sources}
 use Rattle.wm_typing.specs.Names.{unknown_in_filter}
 use Rattle.wm_typing.proofs.Firsts.{found_here}

@@ -1,6 +1,6 @@
 use Rattle.std.proofs.Common.{refl}
-use Rattle.wm_base.specs.Views.{item_view, outs_view}
-use Rattle.wm_base.specs.declared.tree.query.Out.{Out}
+use Rattle.wm_syntax.specs.Views.{item_view, outs_view}
+use Rattle.wm_syntax.specs.declared.query.Out.{Out}
 use Rattle.wm_query_faults.specs.Items.{unknown_in_item, unknown_in_outs}
 use Rattle.wm_typing.proofs.Firsts.{found_here}
 use Rattle.wm_query_faults.proofs.items.unknown_in_outs.Goals as goal

@@ -1,6 +1,6 @@
 use Rattle.std.proofs.Common.{refl}
-use Rattle.wm_base.specs.Views.{projection_view}
-use Rattle.wm_base.specs.declared.tree.query.Order.{Order}
+use Rattle.wm_syntax.specs.Views.{projection_view}
+use Rattle.wm_syntax.specs.declared.query.Order.{Order}
 use Rattle.wm_query_faults.specs.Lacking.{lacking_by, lacking_in_orders}
 use Rattle.wm_typing.proofs.Firsts.{found_here}
 use Rattle.wm_query_faults.proofs.lacking_parts.lacking_in_orders.Goals as goal

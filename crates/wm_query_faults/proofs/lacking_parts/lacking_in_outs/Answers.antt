@@ -1,6 +1,6 @@
 use Rattle.std.proofs.Common.{refl}
-use Rattle.wm_base.specs.Views.{item_view, outs_view}
-use Rattle.wm_base.specs.declared.tree.query.Out.{Out}
+use Rattle.wm_syntax.specs.Views.{item_view, outs_view}
+use Rattle.wm_syntax.specs.declared.query.Out.{Out}
 use Rattle.wm_query_faults.specs.Lacking.{lacking_in_item, lacking_in_outs}
 use Rattle.wm_typing.proofs.Firsts.{found_here}
 use Rattle.wm_query_faults.proofs.lacking_parts.lacking_in_outs.Goals as goal

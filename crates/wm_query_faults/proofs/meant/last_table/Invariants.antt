@@ -1,5 +1,5 @@
 use Rattle.std.proofs.Common.{◌≡◌, [], drop}
-use Rattle.wm_base.specs.Views.{srcs_view}
+use Rattle.wm_syntax.specs.Views.{srcs_view}
 use Rattle.wm_query_faults.specs.Lacking.{last_table}
 use Rattle.wm_query_faults.proofs.meant.last_table.Given as goal
 

@@ -1,7 +1,7 @@
 use Rattle.std.proofs.Common.{◌≡◌, drop}
 use Rattle.std.specs.List.{list_any}
-use Rattle.wm_base.specs.Trees.{Out}
-use Rattle.wm_base.specs.Views.{outs_view}
+use Rattle.wm_syntax.specs.Trees.{Out}
+use Rattle.wm_syntax.specs.Views.{outs_view}
 use Rattle.wm_query_faults.specs.Items.{is_item_col}
 use Rattle.wm_query_faults.proofs.orders.is_out_col.Given as goal
 

@@ -1,5 +1,5 @@
 use Rattle.std.proofs.Common.{◌≡◌, drop}
-use Rattle.wm_base.specs.Views.{projection_view}
+use Rattle.wm_syntax.specs.Views.{projection_view}
 use Rattle.wm_query_faults.specs.Items.{unknown_in_orders}
 use Rattle.wm_query_faults.proofs.orders.unknown_in_orders.Given as goal
 

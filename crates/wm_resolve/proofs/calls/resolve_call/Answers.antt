@@ -1,6 +1,6 @@
 use Rattle.std.proofs.Common.{List, ℕ, [], Option, Some, unwrap_or, sym, ap, ◌∙◌}
 use Rattle.std.proofs.lemmas.Result.{IfOk-weaker}
-use Rattle.wm_base.specs.Views.{filter_view}
+use Rattle.wm_syntax.specs.Views.{filter_view}
 use Rattle.wm_calls.specs.Arguments.{text_given}
 use Rattle.wm_calls.specs.Faults.{argument_fault}
 use Rattle.wm_grammar.specs.declared.procedure.Parameter.TheVariants as parameters

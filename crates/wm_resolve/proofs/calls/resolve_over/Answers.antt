@@ -1,7 +1,7 @@
 use Rattle.std.proofs.Common.{[], unwrap_or, false, sym, ap, ◌∙◌}
 use Rattle.std.proofs.lemmas.Result.{IfOk-weaker}
 use Rattle.std.specs.Option.{option_copied}
-use Rattle.wm_base.specs.Views.{filter_view}
+use Rattle.wm_syntax.specs.Views.{filter_view}
 use Rattle.wm_calls.specs.Arguments.{text_given}
 use Rattle.wm_grammar.specs.declared.procedure.Parameter.TheVariants as parameters
 use Rattle.wm_grammar.specs.declared.procedure.Procedure.TheVariants as procedures

@@ -1,7 +1,7 @@
 use Rattle.std.proofs.Common.{map, List, false, ap, ◌∙◌}
 use Rattle.std.proofs.lemmas.Result.{IfOk-weaker}
 use Rattle.std.specs.List.{filter_map}
-use Rattle.wm_base.specs.Views.{filter_view}
+use Rattle.wm_syntax.specs.Views.{filter_view}
 use Rattle.wm_decided.specs.Deciding.{decided_on}
 use Rattle.wm_decided.specs.Keys.{key_as_row}
 use Rattle.wm_dml.specs.Changing.{meets}

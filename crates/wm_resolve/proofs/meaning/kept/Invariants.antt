@@ -1,5 +1,5 @@
 use Rattle.std.proofs.Common.{◌≡◌, filter}
-use Rattle.wm_base.specs.Views.{cond_view}
+use Rattle.wm_syntax.specs.Views.{cond_view}
 use Rattle.wm_decided.specs.Keys.{key_as_row}
 use Rattle.wm_pending.specs.declared.clash.Conflict.{Conflict}
 use Rattle.wm_spec.specs.Conditions.{is_yes, truth_of}

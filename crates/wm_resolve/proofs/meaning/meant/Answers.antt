@@ -1,5 +1,5 @@
 use Rattle.std.proofs.Common.{ap}
-use Rattle.wm_base.specs.Views.{filter_view}
+use Rattle.wm_syntax.specs.Views.{filter_view}
 use Rattle.wm_resolve.proofs.Keyed.{all_meant}
 use Rattle.wm_resolve.proofs.meaning.meant.Goals as goal
 

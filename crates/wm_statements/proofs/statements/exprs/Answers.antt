@@ -1,5 +1,5 @@
 use Rattle.std.proofs.Common.{refl}
-use Rattle.wm_base.specs.Views.{expr_view, exprs_view}
+use Rattle.wm_syntax.specs.Views.{expr_view, exprs_view}
 use Rattle.wm_grammar.specs.QueryReaders.{next_at, list_of_at}
 use Rattle.wm_grammar.specs.ExpressionReaders.{expr_at}
 use Rattle.wm_grammar.specs.Sorts as sorts

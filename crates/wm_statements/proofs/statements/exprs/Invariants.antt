@@ -1,5 +1,5 @@
 use Rattle.std.proofs.Common.{length}
-use Rattle.wm_base.specs.Views.{exprs_view}
+use Rattle.wm_syntax.specs.Views.{exprs_view}
 use Rattle.wm_grammar.specs.QueryReaders.{next_at, list_of_at}
 use Rattle.wm_grammar.specs.ExpressionReaders.{expr_at}
 use Rattle.wm_terms.proofs.Listing.{Lists}

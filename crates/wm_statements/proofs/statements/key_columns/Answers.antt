@@ -1,5 +1,5 @@
 use Rattle.std.proofs.Common.{rules}
-use Rattle.wm_base.specs.declared.tree.statement.CreateItem.TheVariants as items
+use Rattle.wm_syntax.specs.declared.statement.CreateItem.TheVariants as items
 use Rattle.wm_grammar.specs.StatementReaders.{key_columns_at}
 use Rattle.wm_statements.proofs.statements.key_columns.Goals as goal
 

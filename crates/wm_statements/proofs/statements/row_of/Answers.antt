@@ -1,5 +1,5 @@
 use Rattle.std.proofs.Common.{rules}
-use Rattle.wm_base.specs.Trees as trees
+use Rattle.wm_syntax.specs.Trees as trees
 use Rattle.wm_statements.proofs.statements.row_of.Goals as goal
 
 pub returns-in_err-values : goal.returns-in_err-values

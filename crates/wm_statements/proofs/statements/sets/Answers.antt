@@ -1,5 +1,5 @@
 use Rattle.std.proofs.Common.{refl}
-use Rattle.wm_base.specs.Views.{set_view, sets_view}
+use Rattle.wm_syntax.specs.Views.{set_view, sets_view}
 use Rattle.wm_grammar.specs.QueryReaders.{next_at, list_of_at}
 use Rattle.wm_grammar.specs.StatementReaders.{set_at}
 use Rattle.wm_grammar.specs.Sorts as sorts

@@ -1,5 +1,5 @@
 use Rattle.std.proofs.Common.{◌≡◌, ◌++◌, map, take, drop}
-use Rattle.wm_base.specs.Views.{exprs_view}
+use Rattle.wm_syntax.specs.Views.{exprs_view}
 use Rattle.wm_timed.specs.Timed.{timed_expr}
 use Rattle.wm_timed.proofs.expressions.set_exprs.Given as goal
 

@@ -1,5 +1,5 @@
 use Rattle.std.proofs.Common.{◌≡◌, ◌++◌, map, take, drop}
-use Rattle.wm_base.specs.Views.{outs_view}
+use Rattle.wm_syntax.specs.Views.{outs_view}
 use Rattle.wm_timed.specs.Timed.{timed_out}
 use Rattle.wm_timed.proofs.queries.set_outs.Given as goal
 

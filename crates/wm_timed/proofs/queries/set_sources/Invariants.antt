@@ -1,5 +1,5 @@
 use Rattle.std.proofs.Common.{◌≡◌, ◌++◌, map, take, drop}
-use Rattle.wm_base.specs.Views.{srcs_view}
+use Rattle.wm_syntax.specs.Views.{srcs_view}
 use Rattle.wm_timed.specs.Timed.{timed_src}
 use Rattle.wm_timed.proofs.queries.set_sources.Given as goal
 

@@ -1,5 +1,5 @@
 use Rattle.std.proofs.Common.{◌≡◌, drop}
-use Rattle.wm_base.specs.Views.{sets_view}
+use Rattle.wm_syntax.specs.Views.{sets_view}
 use Rattle.wm_typing.specs.Changing.{key_set}
 use Rattle.wm_typing.proofs.changing.key_set.Given as goal
 

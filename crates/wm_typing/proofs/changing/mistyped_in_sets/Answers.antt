@@ -1,5 +1,5 @@
 use Rattle.std.proofs.Common.{refl}
-use Rattle.wm_base.specs.Views.{set_view, sets_view}
+use Rattle.wm_syntax.specs.Views.{set_view, sets_view}
 use Rattle.wm_typing.specs.Changing.{mistyped_in_set, mistyped_in_sets}
 use Rattle.wm_typing.proofs.Firsts.{found_here}
 use Rattle.wm_typing.proofs.changing.mistyped_in_sets.Goals as goal

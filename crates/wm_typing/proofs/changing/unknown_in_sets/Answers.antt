@@ -1,5 +1,5 @@
 use Rattle.std.proofs.Common.{[], ◌∷◌, ◌++◌, take, refl}
-use Rattle.wm_base.specs.Views.{set_view, sets_view}
+use Rattle.wm_syntax.specs.Views.{set_view, sets_view}
 use Rattle.wm_typing.specs.Changing.{unknown_in_set, unknown_in_sets}
 use Rattle.wm_typing.proofs.Firsts.{found_here}
 use Rattle.wm_typing.proofs.changing.unknown_in_sets.Goals as goal

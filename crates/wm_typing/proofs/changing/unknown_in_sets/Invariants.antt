@@ -1,5 +1,5 @@
 use Rattle.std.proofs.Common.{◌≡◌, [], drop, take}
-use Rattle.wm_base.specs.Views.{sets_view}
+use Rattle.wm_syntax.specs.Views.{sets_view}
 use Rattle.wm_typing.specs.Changing.{unknown_in_sets}
 use Rattle.wm_typing.proofs.changing.unknown_in_sets.Given as goal
 

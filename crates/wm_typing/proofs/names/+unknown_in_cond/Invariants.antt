@@ -1,7 +1,7 @@
 use Rattle.std.proofs.Common.{◌≡◌, ◌≤◌, option_copied}
 use Rattle.std.specs.Option.{option_or}
-use Rattle.wm_base.specs.Views.{cond_view}
-use Rattle.wm_base.specs.declared.tree.cond.Cond.{size-Cond}
+use Rattle.wm_syntax.specs.Views.{cond_view}
+use Rattle.wm_syntax.specs.declared.cond.Cond.{size-Cond}
 use Rattle.wm_typing.specs.Names.{unknown_in_cond}
 use Rattle.wm_typing.proofs.names.+unknown_in_cond.Given as goal
 

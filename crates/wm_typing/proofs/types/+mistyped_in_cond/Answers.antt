@@ -1,6 +1,6 @@
 use Rattle.std.proofs.Common.{option_copied, ap, sym, ◌∙◌}
 use Rattle.std.specs.Option.{option_or}
-use Rattle.wm_base.specs.Views.{cond_view}
+use Rattle.wm_syntax.specs.Views.{cond_view}
 use Rattle.wm_typing.specs.Types.{mistyped_in_cond}
 use Rattle.wm_typing.proofs.types.+mistyped_in_cond.Goals as goal
 

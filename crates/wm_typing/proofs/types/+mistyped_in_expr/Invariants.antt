@@ -1,7 +1,7 @@
 use Rattle.std.proofs.Common.{◌≡◌, ◌≤◌, option_copied}
 use Rattle.std.specs.Option.{option_or}
-use Rattle.wm_base.specs.Views.{expr_view}
-use Rattle.wm_base.specs.declared.tree.expr.Expr.{size-Expr}
+use Rattle.wm_syntax.specs.Views.{expr_view}
+use Rattle.wm_syntax.specs.declared.expr.Expr.{size-Expr}
 use Rattle.wm_typing.specs.Types.{mistyped_in_expr}
 use Rattle.wm_typing.proofs.types.+mistyped_in_expr.Given as goal
 

@@ -1,11 +1,11 @@
 use Rattle.std.proofs.Common.{◌≡◌, ◌+◌, Vec, Global, List, length, ap, sym, ◌∙◌, arith}
 use Rattle.wm_base.specs.declared.columns.Column.{Column}
 use Rattle.wm_base.specs.declared.listing.Listing.{Listing as Source}
-use Rattle.wm_base.specs.Views.{query_view, src_view}
+use Rattle.wm_syntax.specs.Views.{query_view, src_view}
 use Rattle.wm_graph.specs.Parts.{parts_of}
 use Rattle.wm_model.specs.Planning.{tables_in}
 use Rattle.wm_model.specs.Step.{source_name}
-use Rattle.wm_select.specs.Query.{is_kept}
+use Rattle.wm_joining.specs.Kept.{is_kept}
 use Rattle.wm_view_rows.specs.Columns.{columns_of_view}
 use Rattle.wm_view_rows.specs.Views.{view_named}
 use Rattle.wm_views.specs.Looking.{look_view}

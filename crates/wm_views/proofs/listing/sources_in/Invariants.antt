@@ -1,10 +1,10 @@
 use Rattle.std.proofs.Common.{◌≡◌, ◌+◌, List, ◌++◌, drop, length, None}
 use Rattle.wm_base.specs.declared.listing.Listing.{Listing as Source}
-use Rattle.wm_base.specs.Views.{query_view, srcs_view}
+use Rattle.wm_syntax.specs.Views.{query_view, srcs_view}
 use Rattle.wm_graph.specs.Parts.{parts_of}
 use Rattle.wm_model.specs.Planning.{tables_in}
 use Rattle.wm_model.specs.Step.{columns_in, lost_source}
-use Rattle.wm_select.specs.Query.{is_kept}
+use Rattle.wm_joining.specs.Kept.{is_kept}
 use Rattle.wm_views.specs.Looking.{look_view}
 use Rattle.wm_views.specs.Narrowed.{AreListedFor}
 use Rattle.wm_views.proofs.listing.sources_in.Given as goal

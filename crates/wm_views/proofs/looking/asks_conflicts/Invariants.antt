@@ -1,5 +1,5 @@
 use Rattle.std.proofs.Common.{◌≡◌, drop}
-use Rattle.wm_base.specs.Views.{srcs_view}
+use Rattle.wm_syntax.specs.Views.{srcs_view}
 use Rattle.wm_model.specs.Step.{asks_conflicts}
 use Rattle.wm_views.proofs.looking.asks_conflicts.Given as goal
 

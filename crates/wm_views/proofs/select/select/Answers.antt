@@ -1,6 +1,6 @@
 use Rattle.std.proofs.Common.{List, [], false, sym, ap, ◌∙◌}
-use Rattle.wm_base.specs.declared.tree.query.Src.{Src as SrcNode}
-use Rattle.wm_base.specs.Views.{query_view, srcs_view}
+use Rattle.wm_syntax.specs.declared.query.Src.{Src as SrcNode}
+use Rattle.wm_syntax.specs.Views.{query_view, srcs_view}
 use Rattle.wm_model.proofs.Selecting.{select_lost, select_off}
 use Rattle.wm_model.specs.Planning.{Stay, tables_in}
 use Rattle.wm_model.specs.Step.{columns_in, lost_source, no_table, select, table_off, tables_of, versioning}

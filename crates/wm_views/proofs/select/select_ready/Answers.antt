@@ -1,6 +1,6 @@
 use Rattle.std.proofs.Common.{List, [], None, Some, sym, ap, ◌∙◌}
-use Rattle.wm_base.specs.declared.tree.query.Src.{Src as SrcNode}
-use Rattle.wm_base.specs.Views.{filter_view, query_view, srcs_view}
+use Rattle.wm_syntax.specs.declared.query.Src.{Src as SrcNode}
+use Rattle.wm_syntax.specs.Views.{filter_view, query_view, srcs_view}
 use Rattle.wm_chosen.proofs.ChosenRows.{where_typed}
 use Rattle.wm_graph.specs.Parts.{parts_of, space_of}
 use Rattle.wm_model.proofs.Homes.{does_homeless}

@@ -1,5 +1,5 @@
 use Rattle.std.proofs.Common.{◌≡◌, ◌++◌, drop}
-use Rattle.wm_base.specs.Views.{srcs_view}
+use Rattle.wm_syntax.specs.Views.{srcs_view}
 use Rattle.wm_model.specs.Planning.{tables_in}
 use Rattle.wm_model.specs.Step.{columns_in}
 use Rattle.wm_views.proofs.sources.columns_in.Given as goal

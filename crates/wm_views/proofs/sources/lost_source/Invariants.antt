@@ -1,5 +1,5 @@
 use Rattle.std.proofs.Common.{◌≡◌, drop}
-use Rattle.wm_base.specs.Views.{srcs_view}
+use Rattle.wm_syntax.specs.Views.{srcs_view}
 use Rattle.wm_model.specs.Planning.{tables_in}
 use Rattle.wm_model.specs.Step.{lost_source}
 use Rattle.wm_views.proofs.sources.lost_source.Given as goal
