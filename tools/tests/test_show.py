@@ -2,7 +2,6 @@
 import random
 import shutil
 import subprocess
-import threading
 from itertools import combinations
 
 from around import PROGRAM, WithFolder, made, run, store_of_examples, store_of_tutorial, tool
@@ -12,7 +11,7 @@ from storefile.pages import SIZE, Damaged, NotAStore, Pages
 from storefile.store import LIVE, opened
 from storefile.values import printed
 
-SEEDS, LINES, DAMAGES, ROWS = 16, 90, 150, 400
+SEEDS, LINES, DAMAGES, ROWS, LOOKS = 16, 90, 150, 1000, 20
 VERSION = 4  # the tag of its record
 
 
@@ -388,19 +387,20 @@ class Files(WithFolder):
     def test_store_that_is_changed_meanwhile(self):
         """While a run inserts rows, each look shows a front of them."""
         made(self.store)
-        script = b"CONNECT A ANN\nA: CREATE TABLE T (ID NUMBER PRIMARY KEY)\nA: EXECUTE DBMS_WM.EnableVersioning('T')\n"
-        script += b"".join(b"A: INSERT INTO T VALUES (%d)\n" % number for number in range(ROWS))
+        begin = b"CONNECT A ANN\nA: CREATE TABLE T (ID NUMBER PRIMARY KEY)\nA: EXECUTE DBMS_WM.EnableVersioning('T')\n"
+        inserts = [b"A: INSERT INTO T VALUES (%d)\n" % number for number in range(ROWS)]
         with subprocess.Popen([*PROGRAM.split(), str(self.store), "run", "--now", "2024-01-01"], stdin=subprocess.PIPE,
                               stdout=subprocess.DEVNULL) as writer:
-            threading.Thread(target=lambda: (writer.stdin.write(script), writer.stdin.close())).start()
-            looks = 0
-            while writer.poll() is None:
+            writer.stdin.write(begin)
+            for first in range(0, ROWS, ROWS // LOOKS):
+                # A part fits in the pipe. So it is handed over at once, and the look falls while it is played.
+                writer.stdin.write(b"".join(inserts[first:first + ROWS // LOOKS]))
+                writer.stdin.flush()
                 found = opened(self.store)
                 for table in found.tables.values():
                     keys = [row.key for row in found.rows_of(found.spaces[LIVE], table)]
                     self.assertEqual(keys, list(range(len(keys))))
-                looks += 1
-        self.assertGreater(looks, 1)
+        self.assertEqual(writer.returncode, 0)
         self.assertEqual(opened(self.store).counters.next_stamp, ROWS + 1)
 
     def test_no_store(self):
