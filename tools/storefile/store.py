@@ -1,16 +1,13 @@
 """What the records of a store say together."""
-import time
 from collections import defaultdict
 from pathlib import Path
 from typing import NamedTuple
 
 from .pages import Damaged, Pages
 from .records import Counters, Hist, Mark, Piece, Row, Savepoint, Space, Table, Touch, Turn, Version, records_of
-from .use import has_a_run
 from .values import in_order
 
 LIVE, NO_VERSION = 0, 0
-ATTEMPTS = 10
 
 
 class Shown(NamedTuple):
@@ -253,12 +250,14 @@ def stamps(conflict):
 
 
 def opened(path):
-    """The store in a file, which is only read. What is read while a run changes it may not fit together: then again."""
-    for attempt in range(ATTEMPTS):
-        with Path(path).open("rb") as file:
-            try:
-                return Store(Pages(file.read()))
-            except Damaged:
-                if attempt == ATTEMPTS - 1 or not has_a_run(file):
-                    raise
-        time.sleep(0.2)
+    """The store in a file, which is only read. What is read while a run changes it may not fit together: then again, until the
+    file is read twice as it is."""
+    before = None
+    while True:
+        data = Path(path).read_bytes()
+        try:
+            return Store(Pages(data))
+        except Damaged:
+            if data == before:
+                raise
+        before = data
