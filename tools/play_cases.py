@@ -30,7 +30,7 @@ import sys
 import tempfile
 from pathlib import Path
 
-SECONDS = 60
+from machine import SECONDS, folder_in_memory
 
 
 class Command:
@@ -201,7 +201,7 @@ def too_many(store, words):
 
 def play(program, path):
     """The first difference of a case, or None."""
-    with tempfile.TemporaryDirectory() as folder:
+    with tempfile.TemporaryDirectory(dir=folder_in_memory()) as folder:
         store = Path(folder) / "s.store"
         for step in read_case(path):
             if isinstance(step, list) and step[0] in ("few", "same", "count", "is", "has", "lacks"):

@@ -22,6 +22,7 @@ TOP = Path(__file__).resolve().parents[1]
 sys.path[:0] = [str(TOP / "tools" / "play"), str(TOP / "tools")]
 
 from lines import is_refusal, readable
+from machine import SECONDS
 from program import Ended, Program, found_program, make_store
 
 LIMIT, NOW = 1_048_576, "2024-06-01"
@@ -80,9 +81,10 @@ def play_lines(path, lines):
 # Commands
 
 def said_by(command, folder):
-    environment = {**os.environ, "PATH": f"{TOP / 'build'}:{os.environ['PATH']}", "COLUMNS": "100"}
+    # A locale that the machine does not have is told of by the shell, which is no answer of the command.
+    environment = {**os.environ, "PATH": f"{TOP / 'build'}:{os.environ['PATH']}", "COLUMNS": "100", "LC_ALL": "C"}
     done = subprocess.run(["bash", "-c", command], cwd=folder, env=environment, stdin=subprocess.DEVNULL, stdout=subprocess.PIPE,
-                          stderr=subprocess.STDOUT, timeout=300)
+                          stderr=subprocess.STDOUT, timeout=SECONDS)
     lines = [line.rstrip() for line in done.stdout.decode("utf-8", "replace").splitlines()]
     return [line for line in lines if not PROGRESS.fullmatch(line)]
 

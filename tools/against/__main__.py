@@ -19,11 +19,12 @@ import tempfile
 from collections import Counter
 from pathlib import Path
 
+sys.path.insert(1, str(Path(__file__).resolve().parents[1]))
+
+from machine import SECONDS, folder_in_memory
 from reference import Reference, ended
 from scripts import Writer
 from values import TIMESTAMP_FORMS, instant
-
-SECONDS = 60
 
 
 def expected(limit, runs):
@@ -37,7 +38,7 @@ def expected(limit, runs):
 
 def answered(program, limit, runs):
     """What the program says, by run, with how it ended where that is not well."""
-    with tempfile.TemporaryDirectory(dir="/dev/shm" if Path("/dev/shm").is_dir() else None) as folder:
+    with tempfile.TemporaryDirectory(dir=folder_in_memory()) as folder:
         store, found = str(Path(folder) / "s.store"), []
         subprocess.run([*program, store, "init", "--limit", str(limit)], check=True, capture_output=True, timeout=SECONDS)
         for now, lines in runs:

@@ -2,12 +2,17 @@
 import os
 import shutil
 import subprocess
+import sys
+from pathlib import Path
+
+sys.path.insert(1, str(Path(__file__).resolve().parents[1]))
+
+from machine import SECONDS
 
 NOW = "2024-06-01"
 INIT = ("init", "--limit", "1000")
 RUN = ("run", "--now", NOW)
 CHECK = ("check",)
-SECONDS = 60
 
 COMPLAINTS = {
     0: b"",

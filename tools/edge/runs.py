@@ -2,7 +2,7 @@
 import os
 import subprocess
 
-from room import CHECK, INIT, RUN, ended, inserting, read
+from room import CHECK, INIT, RUN, SECONDS, ended, inserting, read
 
 PAGE = 4096
 # The first page that has records, the counters among them, which each change rewrites.
@@ -17,7 +17,7 @@ def answer(run, line):
 
 
 def finished(run):
-    said, complaint = run.communicate(timeout=60)
+    said, complaint = run.communicate(timeout=SECONDS)
     return run.returncode, said, complaint
 
 

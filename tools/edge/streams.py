@@ -96,5 +96,5 @@ def too_long(kind, room):
             run.stdin.write(chunk)
             left -= len(chunk)
         run.stdin.write(chunk[: left - 1] + b"\n" if left else b"")
-        said, complaint = run.communicate(timeout=10 * SECONDS)
+        said, complaint = run.communicate(timeout=SECONDS)
         kind.expect(f"2^30 + {more} bytes", (run.returncode, said, complaint), ended(status, b"OK\n"))

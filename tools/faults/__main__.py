@@ -14,6 +14,7 @@ import os
 import sys
 import tempfile
 from concurrent.futures import ThreadPoolExecutor
+from pathlib import Path
 
 from expected import Expected
 from recording import KINDS
@@ -22,6 +23,7 @@ from trying import FATES, AgainTries, CheckTries, InitTries, LoadTries, RunTries
 
 from drawn_script import script
 from every_line import SCRIPT, lines_of
+from machine import built_shim, folder_in_memory
 
 # Rows that fill pages, so that a line changes several.
 WIDE = [
@@ -122,9 +124,11 @@ def main():
     words.add_argument("program")
     words.add_argument("--every", type=int, default=1, help="make each Nth try only")
     given = words.parse_args()
-    disk = "/dev/shm" if os.path.isdir("/dev/shm") else None
-    with tempfile.TemporaryDirectory(prefix="wm-faults-", dir=disk) as folder, ThreadPoolExecutor(os.cpu_count()) as pool:
-        room, told = Room(folder, os.path.abspath(given.program)), Told(pool)
+    # A folder in memory often is one from which no library is loaded.
+    with (tempfile.TemporaryDirectory(prefix="wm-faults-", dir=folder_in_memory()) as folder,
+          tempfile.TemporaryDirectory(prefix="wm-faults-") as built, ThreadPoolExecutor() as pool):
+        shim = built_shim(Path(__file__).with_name("shim.c"), built)
+        room, told = Room(folder, os.path.abspath(given.program), shim), Told(pool)
         fresh = room.play(None, INIT).file
         stopped = try_run(told, room, fresh, given.every)
         try_init(told, room, fresh, given.every)

@@ -7,14 +7,13 @@ import threading
 from pathlib import Path
 from typing import NamedTuple
 
-HERE = Path(__file__).resolve().parent
-sys.path.insert(0, str(HERE.parent))
+sys.path.insert(0, str(Path(__file__).resolve().parents[1]))
 
 from every_line import NOW, READING, lines_of
+from machine import SECONDS
 from recording import calls_of
 from storefile.pages import Damaged, NotAStore, Pages
 
-SECONDS = 300
 INIT = "init", "--limit", "1000"
 RUN = "run", "--now", NOW
 CHECK = "check",
@@ -43,11 +42,9 @@ def records_in(file):
 
 
 class Room:
-    def __init__(self, folder, program):
-        self.folder, self.program, self.shim = folder, program, f"{folder}/shim.so"
+    def __init__(self, folder, program, shim):
+        self.folder, self.program, self.shim = folder, program, shim
         self.made, self.looked, self.alone = 0, {}, threading.Lock()
-        cc = os.environ.get("CC", "cc")
-        subprocess.run([cc, "-shared", "-fPIC", "-O1", "-o", self.shim, HERE / "shim.c"], check=True)
 
     def path(self):
         with self.alone:

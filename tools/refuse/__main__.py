@@ -17,12 +17,13 @@ from pathlib import Path
 
 sys.path.insert(0, str(Path(__file__).resolve().parents[1]))
 from every_line import MAKING, NOW, READING, SCRIPT, lines_of
+from machine import SECONDS, built_shim
 
 
 def play(program, store, lines, **more):
     """Returns the status, the answers and the standard error of a run of the lines over the store."""
     words = [program, store, "run", "--now", NOW]
-    ran = subprocess.run(words, input=b"".join(lines), capture_output=True, timeout=60, env={**os.environ, **more})
+    ran = subprocess.run(words, input=b"".join(lines), capture_output=True, timeout=SECONDS, env={**os.environ, **more})
     return ran.returncode, ran.stdout, ran.stderr
 
 
@@ -80,12 +81,6 @@ class Expected:
         return None
 
 
-def built_shim(room):
-    source, shim = Path(__file__).with_name("shim.c"), f"{room}/shim.so"
-    subprocess.run([os.environ.get("CC", "cc"), "-shared", "-fPIC", "-O1", "-o", shim, source], check=True)
-    return shim
-
-
 def main():
     words = argparse.ArgumentParser(description=__doc__, formatter_class=argparse.RawDescriptionHelpFormatter)
     words.add_argument("program")
@@ -94,7 +89,8 @@ def main():
     given = words.parse_args()
     program, lines = os.path.abspath(given.program), lines_of(SCRIPT)
     with tempfile.TemporaryDirectory(prefix="wm-refuse-") as room:
-        store, shim, counted = f"{room}/fresh.store", built_shim(room), f"{room}/count"
+        store, counted = f"{room}/fresh.store", f"{room}/count"
+        shim = built_shim(Path(__file__).with_name("shim.c"), room)
         subprocess.run([program, store, "init", "--limit", "1000"], check=True, capture_output=True)
         expected = Expected(program, room, store, lines)
         play(program, copied(room, store, "counted"), lines, LD_PRELOAD=shim, REFUSE_COUNT=counted)
@@ -108,7 +104,7 @@ def main():
             return f"allocation {number}: {fault}" if fault else None
 
         numbers = range(given.first, count + 1, given.every)
-        with ThreadPoolExecutor(os.cpu_count()) as pool:
+        with ThreadPoolExecutor() as pool:
             faults = [it for it in pool.map(attempt, numbers) if it]
     for fault in faults[:20]:
         print(fault)

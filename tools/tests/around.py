@@ -6,6 +6,8 @@ import tempfile
 import unittest
 from pathlib import Path
 
+from machine import SECONDS, folder_in_memory
+
 TOP = Path(__file__).resolve().parents[2]
 PROGRAM = os.environ.get("WM", str(TOP / "build" / "wm"))
 EXAMPLES = [("first", "2020-01-01"), ("again", "2020-01-02"), ("budget", "2024-06-01"), ("survey", "2024-07-01"),
@@ -15,12 +17,13 @@ TUTORIAL = [("planner", "2024-06-01"), ("surveyor", "2024-06-01"), ("officer", "
 
 def tool(name, *words, **named):
     """What a tool did. Its words are texts and paths."""
-    return subprocess.run([sys.executable, str(TOP / "tools" / name), *map(str, words)], capture_output=True, text=True, timeout=120, **named)
+    return subprocess.run([sys.executable, str(TOP / "tools" / name), *map(str, words)], capture_output=True, text=True, timeout=SECONDS,
+                          **named)
 
 
 def run(store, now, script):
     """A run of the program alone."""
-    return subprocess.run([*PROGRAM.split(), str(store), "run", "--now", now], input=script, capture_output=True, timeout=120)
+    return subprocess.run([*PROGRAM.split(), str(store), "run", "--now", now], input=script, capture_output=True, timeout=SECONDS)
 
 
 def made(store, limit=1_048_576):
@@ -45,7 +48,7 @@ class WithFolder(unittest.TestCase):
     """Each test has an empty folder of its own."""
 
     def setUp(self):
-        kept = tempfile.TemporaryDirectory(dir="/dev/shm" if Path("/dev/shm").is_dir() else None)
+        kept = tempfile.TemporaryDirectory(dir=folder_in_memory())
         self.addCleanup(kept.cleanup)
         self.folder = Path(kept.name)
         self.store = self.folder / "s.store"

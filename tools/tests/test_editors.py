@@ -8,6 +8,7 @@ import sys
 import unittest
 
 from around import TOP, WithFolder
+from machine import SECONDS
 
 MODES = TOP / "editors"
 
@@ -145,7 +146,8 @@ class Modes(WithFolder):
         commands = self.folder / "asked.vim"
         commands.write_text(f"set runtimepath^={MODES / 'vim'}\nfiletype on\nsyntax on\nedit {script}\nlet g:found = []\n{asked}"
                             f"call writefile(g:found, '{found}')\nqall!\n")
-        done = subprocess.run(["vim", "-u", "NONE", "-es", "-N", "-S", str(commands)], stdin=subprocess.DEVNULL, capture_output=True, timeout=60)
+        done = subprocess.run(["vim", "-u", "NONE", "-es", "-N", "-S", str(commands)], stdin=subprocess.DEVNULL, capture_output=True,
+                              timeout=SECONDS)
         if not found.exists():
             self.skipTest(f"this vim has no syntax: {done.stdout[:60]!r}")
         shown = found.read_text().split("\n")[:-1]

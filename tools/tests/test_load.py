@@ -4,6 +4,7 @@ import subprocess
 from collections import Counter
 
 from around import PROGRAM, TOP, WithFolder, made, run, tool
+from machine import SECONDS
 
 KINDS = [b"OK", b"DONE", b"ROWS", b"REFUSED"]
 
@@ -18,7 +19,7 @@ class Load(WithFolder):
         """The store of a load, what it said, and the store and the answers of a run of the same lines as a script."""
         loaded, other = made(self.folder / "loaded.store"), made(self.folder / "other.store")
         said = subprocess.run([*PROGRAM.split(), str(loaded), "load", "--seed", str(seed), "--lines", str(lines)], capture_output=True,
-                              check=True, timeout=120, stdin=subprocess.DEVNULL)
+                              check=True, timeout=SECONDS, stdin=subprocess.DEVNULL)
         # A load begins at the store's last moment, which is the first there is where the store is fresh.
         answers = run(other, "0001-01-01", tool("drawn_script.py", seed, lines).stdout.encode())
         return loaded, said.stdout, other, answers.stdout
