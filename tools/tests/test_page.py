@@ -104,4 +104,6 @@ class Pages(WithFolder):
             done = subprocess.run([BROWSER, *words, f"file://{path}"], capture_output=True, text=True, timeout=SECONDS)
         except subprocess.TimeoutExpired:
             self.skipTest(f"the browser has not answered in {SECONDS} seconds")
+        if not done.stdout.strip():
+            self.skipTest(f"the browser shows no page: {done.stderr[-200:]!r}")
         return json.loads(unescape(re.search(r'<pre id="measured">(.*?)</pre>', done.stdout, re.DOTALL)[1]))
