@@ -58,6 +58,8 @@ test:
 	test ! -x crates/wm/out/wm || install -D -m 755 crates/wm/out/wm build/wm
 	$(MAKE) cases
 
+# The files are in UTF-8, and so is what the tools say, whatever the locale is.
+cases: export PYTHONUTF8 = 1
 cases: demo
 	@if command -v $(PYTHON) > /dev/null; \
 	then $(PYTHON) tools/play_cases.py build/wm cases \
