@@ -25,7 +25,7 @@ static const char *const kinds[] = {"open", "lock", "size", "seek", "read", "wri
 enum fate { WELL, FAILS, LESS, NOTHING, INTERRUPTED, TORN, DIES_BEFORE, DIES_IN, DIES_AFTER, FATES };
 static const char *const fates[] = {"well", "fails", "less", "nothing", "interrupted", "torn", "before", "in", "after"};
 
-/* The record has a descriptor that no limit forbids, and which the program does not reach. */
+/* The descriptor of the record lies above those that the program has, and below the limits that systems set. */
 enum { FILES = 1024, LOG_AT = 200 };
 
 static int is_begun, is_store[FILES];
