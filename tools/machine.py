@@ -15,7 +15,7 @@ def folder_in_memory():
 
 
 def built_shim(source, folder):
-    """Builds a library that is loaded before the C library. As in a Makefile, $CC is the compiler, with words behind it or none."""
+    """Builds a library that is loaded before the C library. As in a Makefile, $CC may have words behind the compiler."""
     shim = str(Path(folder) / "shim.so")
     subprocess.run([*shlex.split(os.environ.get("CC") or "cc"), "-shared", "-fPIC", "-O1", "-o", shim, str(source)], check=True)
     return shim

@@ -250,8 +250,8 @@ def stamps(conflict):
 
 
 def opened(path):
-    """The store in a file, which is only read. What is read while a run changes it may not fit together: then again, until the
-    file is read twice as it is."""
+    """The store in a file, which is only read. What is read while a run changes it may not fit together: then again.
+    What is read twice the same is what the file holds."""
     before = None
     while True:
         data = Path(path).read_bytes()
