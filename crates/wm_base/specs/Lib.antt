@@ -1,5 +1,6 @@
 pub mod Truth
 pub mod Period
 pub mod Value
+pub mod Held
 pub mod Key
 pub mod Orders

@@ -8,11 +8,19 @@ use crate::values::Values;
 use std::alloc::Global;
 use std::cmp::Ordering;
 use std::marker::Model;
+use std::slice::from_ref;
 
 /// The key of a row: a value for each key column.
 #[derive(Debug, Drop)]
 pub struct Key {
-    values: Values,
+    held: Held,
+}
+
+/// What a key holds. Most keys have one value, which takes no memory of its own.
+#[derive(Debug, Drop)]
+enum Held {
+    One(Value),
+    Values(Values),
 }
 
 impl Model for Key {
@@ -21,47 +29,60 @@ impl Model for Key {
 
     ghost Value = { List OneValue };
 
-    ghost view = { λ k. k.values };
+    ghost use Rattle.wm_base.specs.Held.{held_values};
+
+    ghost view = { λ k. held_values k.held };
 }
 
 impl Key {
     /// The key of one column.
-    pub fn single(alloc: Global, value: Value) -> Result<Key, Memory>
-        ensures { IfOk result (λ key. key ≡ value ∷ []) }
+    pub fn single(value: Value) -> Key
+        ensures { result ≡ value ∷ [] }
     {
-        let mut values = Values::with_capacity(alloc, 1)?;
-        values.push(value)?;
-        Ok(Key { values })
+        Key {
+            held: Held::One(value),
+        }
     }
 
     /// The key that has these values, in order of the key columns.
     pub fn from_values(values: Values) -> Key
         ensures { result ≡ values }
     {
-        Key { values }
+        if values.len() != 1 {
+            return Key {
+                held: Held::Values(values),
+            };
+        }
+        let mut list = values.into_vec();
+        Key::single(list.remove(0))
     }
 
     pub fn values(&self) -> &[Value]
         ensures { result.now ≡ self.now }
     {
-        self.values.as_slice()
+        match &self.held {
+            Held::One(value) => from_ref(value),
+            Held::Values(values) => values.as_slice(),
+        }
     }
 
     pub fn copy(&self, alloc: Global) -> Result<Key, Memory>
         ensures { IfOk result (λ key. key ≡ self.now) }
     {
-        Ok(Key {
-            values: self.values.copy(alloc)?,
-        })
+        let held = match &self.held {
+            Held::One(value) => Held::One(value.copy(alloc)?),
+            Held::Values(values) => Held::Values(values.copy(alloc)?),
+        };
+        Ok(Key { held })
     }
 
     /// The order of keys: value by value, a front before what it begins.
     pub fn compare(&self, q: &Key) -> Ordering
         ensures { result ≡ key_order self.now q.now }
     {
-        match (self.values(), q.values()) {
-            ([Value::Num(one)], [Value::Num(other)]) => one.cmp(other),
-            (one, other) => compare_values(one, other),
+        match (&self.held, &q.held) {
+            (Held::One(Value::Num(one)), Held::One(Value::Num(other))) => one.cmp(other),
+            _ => compare_values(self.values(), q.values()),
         }
     }
 

@@ -102,7 +102,7 @@ fn key_of_constant(alloc: Global, constant: &Const) -> Result<Option<Key>, Memor
         Const::Time(instant) => Value::Time(*instant),
         _ => return Ok(None),
     };
-    Ok(Some(Key::single(alloc, value)?))
+    Ok(Some(Key::single(value)))
 }
 
 /// The key that the condition asks for, where it asks for one.

@@ -6,7 +6,7 @@ ghost use Rattle.wm_codec.specs.Reading.{Gives};
 use crate::fault::ReadFault;
 use crate::numbers::{i64_at, u8_at, u16_at, u64_at};
 use std::alloc::Global;
-use wm_base::{Instant, Key, Kind, Memory, Text, Value, Values};
+use wm_base::{Instant, Key, Kind, Text, Value};
 use wm_spec::record::{CellRange, ColumnKind, FreezeMode, KeyColumns, LockMode};
 
 pub fn flag_at(bytes: &[u8]) -> Result<(bool, &[u8]), ReadFault>
@@ -130,9 +130,7 @@ pub fn key_of(alloc: Global, bytes: &[u8]) -> Result<(Key, &[u8]), ReadFault>
     ensures { Gives (λ x. (x.0, x.1.now)) result (key.read bytes.now) }
 {
     let (value, rest) = value_of(alloc, bytes)?;
-    let mut values = Vec::with_capacity(alloc, 1).map_err(Memory::from)?;
-    values.push_reserved(value);
-    Ok((Key::from_values(Values::from_vec(values)), rest))
+    Ok((Key::single(value), rest))
 }
 
 pub fn cell_range_of(alloc: Global, bytes: &[u8]) -> Result<(CellRange, &[u8]), ReadFault>
