@@ -7,11 +7,10 @@ use Rattle.std.specs.List.{list_all, list_any}
 use Rattle.std.specs.List.Sorted.{IsStrictlySortedBy}
 use Rattle.std.specs.Option.{option_map_or}
 use Rattle.std.specs.Ordering.{is_eq}
-use Rattle.wm_base.proofs.Plain.{nat_lt-past}
 use Rattle.wm_base.specs.Key.{key_order}
 use Rattle.wm_base.specs.declared.instant.TheConstants.{END}
 use Rattle.wm_graph.specs.Parts.{Parts, space_of, table_of}
-use Rattle.wm_graph.specs.Rules.{are_cells, differ, is_given, is_key_of, is_touch, is_trace, keep_rules, meet}
+use Rattle.wm_graph.specs.Rules.{are_cells, differ, is_given, is_touch, is_trace, keep_rules, meet}
 use Rattle.wm_net.proofs.Owing.{lists_all}
 use Rattle.wm_net.proofs.Stretching.{le_or_lt}
 use Rattle.wm_net.specs.Groups.{Group, cell, has_group}
@@ -26,6 +25,7 @@ use Rattle.wm_state.proofs.Apart.{ruled}
 use Rattle.wm_state.specs.Copied.{HoldsKey}
 use Rattle.wm_state.specs.Standing.{latest, seen}
 use Rattle.wm_telling.specs.Telling.{AreOwn, IsHeldListing, gained_held, group_at, own_held, replayed_by, same_held}
+use Rattle.wm_version_rows.proofs.Late.{ended, uncovered}
 use Rattle.wm_pending.proofs.Blocks.{at_group, lists_key}
 use Rattle.wm_pending.proofs.Keyed.{ascend, contained, group_in}
 use Rattle.wm_pending.proofs.Looking.{groups_own, pieces_hold}
@@ -41,28 +41,17 @@ use Rattle.wm_pending.specs.declared.touched.Since.{Since}
 
 -- ---- where no touch is
 
--- no touch goes past the end of time
-ended : (tables : ℕ → Option Table) (spaces : ℕ → Option Space) (x : Trace) → is_touch tables spaces x ≡ true → nat_le x.cells.till END ≡ true
-ended tables spaces x e =
-    let h = and_parts (is_trace tables spaces x) (option_map_or (λ (s : Space). nat_lt x.position s.log_length) (spaces x.space) false) e in
-    let g = and_parts (are_cells tables x.cells) (is_given spaces x.space x.place) h.0 in
-    let d = and_parts (nat_lt x.cells.from x.cells.till && nat_le x.cells.till END) (option_map_or (is_key_of x.cells.key) (tables x.cells.table) false) g.0 in
-    (and_parts (nat_lt x.cells.from x.cells.till) (nat_le x.cells.till END) d.0).1
-
+-- no touch covers a cell from the end of time on
 touched_late : (tables : ℕ → Option Table) (spaces : ℕ → Option Space) (s : Since) (c : Cell) → END ≤ c.time → (xs : List Trace) → list_all (is_touch tables spaces) xs ≡ true → is_touched xs s c ≡ false
 touched_late tables spaces s c late [] all = refl
 touched_late tables spaces s c late (x ∷ xs) all =
     let h = and_parts (is_touch tables spaces x) (list_all (is_touch tables spaces) xs) all in
+    let g = and_parts (is_trace tables spaces x) (option_map_or (λ (s : Space). nat_lt x.position s.log_length) (spaces x.space) false) h.0 in
+    let d = and_parts (are_cells tables x.cells) (is_given spaces x.space x.place) g.0 in
     rw (
-      uncovered (is_since s x) ((x.cells.table == c.table) && is_eq (key_order x.cells.key c.key)) (nat_le x.cells.from c.time) (nat_lt c.time x.cells.till) (nat_lt-past x.cells.till END c.time (ended tables spaces x h.0) late),
+      uncovered (is_since s x) ((x.cells.table == c.table) && is_eq (key_order x.cells.key c.key)) x.cells.from x.cells.till c.time (ended tables x.cells d.0) late,
       touched_late tables spaces s c late xs h.1,
     ) refl
-  where
-    uncovered : (a b d e : Bool) → e ≡ false → (a && (b && (d && e))) ≡ false
-    uncovered true true true e is = is
-    uncovered true true false e is = refl
-    uncovered true false d e is = refl
-    uncovered false b d e is = refl
 
 pub none_late : (p : Parts) (s : Since) (c : Cell) → keep_rules p ≡ true → END ≤ c.time → is_touched p.touches s c ≡ false
 none_late p s c rules late =

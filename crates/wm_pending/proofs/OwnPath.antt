@@ -28,8 +28,9 @@ use Rattle.wm_state.specs.ById.{Ascend}
 use Rattle.wm_state.specs.Copied.{HoldsKey}
 use Rattle.wm_state.specs.Standing.{latest, newest_first, seen_above, stored_at}
 use Rattle.wm_telling.specs.Telling.{own_held}
+use Rattle.wm_version_rows.proofs.Late.{nothing_late}
 use Rattle.wm_pending.proofs.Above.{own_ends, own_goes_on, own_nowhere}
-use Rattle.wm_pending.proofs.Stored.{nothing_late, stored_by_key, stored_nowhere}
+use Rattle.wm_pending.proofs.Stored.{stored_by_key, stored_nowhere}
 use Rattle.wm_pending.specs.Keys.{Place, has_piece_of}
 
 -- ---- the pieces of one key

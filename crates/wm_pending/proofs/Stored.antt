@@ -1,17 +1,14 @@
 -- What a version itself has, told by the records of ids.
-use Rattle.std.proofs.Common.{◌≡◌, ◌≤◌, ℕ, Bool, true, false, cond, ◌&&◌, ◌||◌, ◌==◌, nat_lt, nat_le, List, [], ◌∷◌, Option, None, refl, sym, ap, ◌∙◌, is_some, arith}
+use Rattle.std.proofs.Common.{◌≡◌, ℕ, Bool, true, false, cond, ◌&&◌, ◌==◌, nat_lt, nat_le, List, [], ◌∷◌, None, refl, sym, ap, ◌∙◌, arith}
 use Rattle.std.proofs.lemmas.Bool.Decides.{nat_tests}
-use Rattle.std.proofs.lemmas.Bool.{and_left, and_parts, or_parts}
+use Rattle.std.proofs.lemmas.Bool.{and_left, or_parts}
 use Rattle.std.specs.Bool.{then_some}
-use Rattle.std.specs.List.{filter, filter_map, list_all}
-use Rattle.std.specs.Option.{option_map_or, option_or}
+use Rattle.std.specs.List.{filter, filter_map}
+use Rattle.std.specs.Option.{option_or}
 use Rattle.std.specs.Ordering.{is_eq, nat_cmp, ordering_then}
 use Rattle.std.specs.declared.cmp.Ordering.{Ordering}
-use Rattle.wm_base.proofs.Plain.{nat_lt-past}
 use Rattle.wm_base.specs.Key.{key_order}
-use Rattle.wm_base.specs.declared.instant.TheConstants.{END}
-use Rattle.wm_graph.specs.Parts.{Parts, parts_of, as_piece, row_of, table_of, version_of}
-use Rattle.wm_graph.specs.Rules.{are_cells, collide, differ, is_key_of, is_piece, is_row_at, keep_rules}
+use Rattle.wm_graph.specs.Parts.{parts_of, as_piece}
 use Rattle.wm_index.proofs.Finding.{Tests, all_of, filter-kind}
 use Rattle.wm_image.proofs.Lists.{taken-with}
 use Rattle.wm_image.proofs.Keyed.{stored_at-sought}
@@ -21,11 +18,7 @@ use Rattle.wm_index.specs.Sought.{PieceAt, PiecesIn, ids_with, is_sought}
 use Rattle.wm_spec.specs.Lists.{Cell}
 use Rattle.wm_spec.specs.declared.record.Record.TheVariants as records
 use Rattle.wm_spec.specs.declared.record.piece.PieceRecord.{PieceRecord}
-use Rattle.wm_spec.specs.declared.record.row.RowRecord.{RowRecord}
 use Rattle.wm_spec.specs.declared.record.stored.Stored.{Stored}
-use Rattle.wm_spec.specs.declared.record.table.Table.{Table}
-use Rattle.wm_spec.specs.declared.record.version.Version.{Version}
-use Rattle.wm_state.proofs.Apart.{ruled}
 use Rattle.wm_state.specs.ById.{Ascend}
 use Rattle.wm_state.specs.Standing.{held_by, stored_at}
 use Rattle.wm_pending.specs.Keys.{has_piece_of, is_piece_of}
@@ -77,35 +70,3 @@ stored_nowhere ss ids v c up is none =
     ∙ ap (filter_map as_piece) (taken-with (is_sought (PiecesIn v)) ss up)
     ∙ filter-kind as_piece (λ (x : PieceRecord). x.version == v) (is_sought (PiecesIn v)) (pieces_test v) (all_of ss)))
     ∙ none)
-
--- ---- nothing is held from the end of time on
-
-ended : (tables : ℕ → Option Table) (versions : ℕ → Option Version) (rows : ℕ → Option RowRecord) (next : ℕ) (x : PieceRecord) → is_piece tables versions rows next x ≡ true → nat_le x.cells.till END ≡ true
-ended tables versions rows next x e =
-    let h = and_parts (is_some (versions x.version)) (are_cells tables x.cells && (nat_lt x.stamp next && (x.gone || option_map_or (is_row_at tables x.cells) (rows x.stamp) false))) e in
-    let g = and_parts (are_cells tables x.cells) (nat_lt x.stamp next && (x.gone || option_map_or (is_row_at tables x.cells) (rows x.stamp) false)) h.1 in
-    let d = and_parts (nat_lt x.cells.from x.cells.till && nat_le x.cells.till END) (option_map_or (is_key_of x.cells.key) (tables x.cells.table) false) g.0 in
-    (and_parts (nat_lt x.cells.from x.cells.till) (nat_le x.cells.till END) d.0).1
-
-stored_late : (tables : ℕ → Option Table) (versions : ℕ → Option Version) (rows : ℕ → Option RowRecord) (next v : ℕ) (c : Cell) → END ≤ c.time → (xs : List PieceRecord)
-    → list_all (is_piece tables versions rows next) xs ≡ true → stored_at xs v c ≡ None
-stored_late tables versions rows next v c late [] all = refl
-stored_late tables versions rows next v c late (x ∷ xs) all =
-    let h = and_parts (is_piece tables versions rows next x) (list_all (is_piece tables versions rows next) xs) all in
-    rw (
-      uncovered (x.version == v) ((x.cells.table == c.table) && is_eq (key_order x.cells.key c.key)) (nat_le x.cells.from c.time) (nat_lt c.time x.cells.till)
-          (nat_lt-past x.cells.till END c.time (ended tables versions rows next x h.0) late),
-      stored_late tables versions rows next v c late xs h.1,
-    ) refl
-  where
-    uncovered : (a b d e : Bool) → e ≡ false → (a && (b && (d && e))) ≡ false
-    uncovered true true true e is = is
-    uncovered true true false e is = refl
-    uncovered true false d e is = refl
-    uncovered false b d e is = refl
-
-pub nothing_late : (p : Parts) (v : ℕ) (c : Cell) → keep_rules p ≡ true → END ≤ c.time → stored_at p.pieces v c ≡ None
-nothing_late p v c rules late =
-    let r = ruled p rules in
-    let all = and_parts (differ collide p.pieces) (list_all (is_piece (table_of p.tables) (version_of p.versions) (row_of p.rows) r.counters.next_stamp) p.pieces) r.pieces in
-    stored_late (table_of p.tables) (version_of p.versions) (row_of p.rows) r.counters.next_stamp v c late p.pieces all.1

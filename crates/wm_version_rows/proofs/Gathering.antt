@@ -1,42 +1,36 @@
 -- The rows of a table, gathered key by key.
-use Rattle.std.proofs.Common.{◌≡◌, ℕ, ◌<◌, ◌≤◌, ◌==◌, ◌&&◌, ◌||◌, nat_lt, nat_le, Bool, true, false, cond, All, List, [], ◌∷◌, ◌++◌, map, Option, Some, None, is_some, refl, sym, ap, ◌∙◌, subst, append_assoc, arith}
+use Rattle.std.proofs.Common.{◌≡◌, ℕ, ◌<◌, ◌≤◌, ◌==◌, ◌&&◌, ◌||◌, nat_lt, Bool, true, false, cond, All, List, [], ◌∷◌, ◌++◌, map, Some, refl, sym, ap, ◌∙◌, subst, append_assoc, arith}
 use Rattle.std.proofs.lemmas.List.{append-nil}
 use Rattle.std.proofs.lemmas.List.Elements.{All-head, All-tail, filter_map-append}
 use Rattle.std.specs.BTreeMap.{is_at}
-use Rattle.std.specs.List.{list_any, list_all, filter_map, AllByRecursion}
+use Rattle.std.specs.List.{list_any, filter_map, AllByRecursion}
 use Rattle.std.specs.List.Sorted.{IsStrictlySortedBy}
 use Rattle.std.specs.Map.{lookup, keys_of as entry_keys}
-use Rattle.std.specs.Option.{option_or, option_and_then, option_map_or}
+use Rattle.std.specs.Option.{option_and_then}
 use Rattle.std.specs.Ordering.{is_eq, ordering_reverse}
 use Rattle.std.specs.declared.cmp.Ordering.{Ordering}
 use Rattle.std.specs.declared.cmp.Ordering.TheVariants.{Less, Equal, Greater}
 use Rattle.std.specs.declared.alloc.Global.{Global}
 use Rattle.std.specs.declared.vec.Vec.{Vec}
-use Rattle.std.proofs.lemmas.Bool.{and_parts}
 use Rattle.wm_base.specs.Key.{key_order}
 use Rattle.wm_base.specs.Orders.{key_order_total}
 use Rattle.wm_base.specs.Period.{Span}
 use Rattle.wm_base.specs.declared.instant.TheConstants.{END}
 use Rattle.wm_base.specs.declared.row.Row.{Row}
 use Rattle.wm_base.specs.declared.value.Value.{Value}
-use Rattle.wm_graph.specs.Parts.{Parts, parts_of, as_piece, table_of, version_of, row_of}
-use Rattle.wm_graph.specs.Rules.{keep_rules, are_cells, is_piece, is_row_at, is_key_of, differ, collide}
+use Rattle.wm_graph.specs.Parts.{Parts, parts_of, as_piece}
+use Rattle.wm_graph.specs.Rules.{keep_rules}
 use Rattle.wm_period.specs.Pieces.{Between, held_at}
 use Rattle.wm_period.specs.declared.piece.Piece.{Piece}
 use Rattle.wm_period.proofs.Order.{held_at-past}
-use Rattle.wm_spec.specs.Lists.{Cell}
 use Rattle.wm_spec.specs.Stretches.{Stretch, ComesBefore, KeysAscend, is_key_in}
 use Rattle.wm_spec.specs.declared.record.Record.{Record}
 use Rattle.wm_spec.specs.declared.record.Record.TheVariants as records
 use Rattle.wm_spec.specs.declared.record.piece.PieceRecord.{PieceRecord}
-use Rattle.wm_spec.specs.declared.record.row.RowRecord.{RowRecord}
 use Rattle.wm_spec.specs.declared.record.stored.Stored.{Stored}
-use Rattle.wm_spec.specs.declared.record.table.Table.{Table}
-use Rattle.wm_spec.specs.declared.record.version.Version.{Version}
 use Rattle.wm_state.specs.Listing.{standing, AreRowsOf, row_shown_with, Groups, keys_of, joined, AreAllRowsOf, IsShowing}
-use Rattle.wm_state.specs.Standing.{stored_at, seen_at, newest_first, seen}
-use Rattle.wm_state.proofs.Apart.{ruled}
-use Rattle.wm_tree.specs.declared.version.Version.{Version as Node}
+use Rattle.wm_state.specs.Standing.{seen}
+use Rattle.wm_version_rows.proofs.Late.{late_seen}
 use Rattle.wm_version_rows.proofs.Spans.{maximal, value}
 use Rattle.wm_version_rows.proofs.Spanning.{stretches_are, shown_keyed}
 use Rattle.wm_version_rows.specs.Listing.{AddsRows, IsKeyShowing, shown_on}
@@ -46,61 +40,13 @@ use Rattle.wm_ids.specs.Versioned.{AreNested, AreSpanned, versions_found, versio
 use Rattle.wm_ids.specs.declared.versioned.Versioned.{Versioned}
 use Rattle.wm_index.specs.Sought.{is_piece_of}
 
--- ---- nothing is held from the end of time on
-
-abbrev cell : ℕ → List Value → ℕ → Cell
-cell table key t = record { table = table; key = key; time = t }
-
--- a piece by the rules has ended
-ended : (tables : ℕ → Option Table) (versions : ℕ → Option Version) (rows : ℕ → Option RowRecord) (next : ℕ) (x : PieceRecord) → is_piece tables versions rows next x ≡ true → nat_le x.cells.till END ≡ true
-ended tables versions rows next x e =
-    let h = and_parts (is_some (versions x.version)) (are_cells tables x.cells && (nat_lt x.stamp next && (x.gone || option_map_or (is_row_at tables x.cells) (rows x.stamp) false))) e in
-    let g = and_parts (are_cells tables x.cells) (nat_lt x.stamp next && (x.gone || option_map_or (is_row_at tables x.cells) (rows x.stamp) false)) h.1 in
-    let d = and_parts (nat_lt x.cells.from x.cells.till && nat_le x.cells.till END) (option_map_or (is_key_of x.cells.key) (tables x.cells.table) false) g.0 in
-    (and_parts (nat_lt x.cells.from x.cells.till) (nat_le x.cells.till END) d.0).1
-
-past : (till end t : ℕ) → nat_le till end ≡ true → end ≤ t → nat_lt t till ≡ false
-past till end t e late = grind (arith, e, late)
+-- ---- the rows of a key
 
 below : (t end : ℕ) → nat_lt t end ≡ true → t < end
 below t end e = grind (arith, e)
 
 above : (t end : ℕ) → nat_lt t end ≡ false → end ≤ t
 above t end e = grind (arith, e)
-
-late_stored : (tables : ℕ → Option Table) (versions : ℕ → Option Version) (rows : ℕ → Option RowRecord) (next : ℕ) (table : ℕ) (key : List Value) (t v : ℕ) → END ≤ t
-    → (xs : List PieceRecord) → list_all (is_piece tables versions rows next) xs ≡ true → stored_at xs v (cell table key t) ≡ None
-late_stored tables versions rows next table key t v late [] all = refl
-late_stored tables versions rows next table key t v late (x ∷ xs) all =
-    let h = and_parts (is_piece tables versions rows next x) (list_all (is_piece tables versions rows next) xs) all in
-    rw (
-      uncovered (x.version == v) ((x.cells.table == table) && is_eq (key_order x.cells.key key)) (nat_le x.cells.from t) (nat_lt t x.cells.till)
-          (past x.cells.till END t (ended tables versions rows next x h.0) late),
-      late_stored tables versions rows next table key t v late xs h.1,
-    ) refl
-  where
-    uncovered : (a b c d : Bool) → d ≡ false → (a && (b && (c && d))) ≡ false
-    uncovered true true true d e = e
-    uncovered true true false d e = refl
-    uncovered true false c d e = refl
-    uncovered false b c d e = refl
-
-unseen : (pieces : List PieceRecord) (c : Cell) → ((v : ℕ) → stored_at pieces v c ≡ None) → (nodes : List Node) (v : ℕ) → seen_at pieces nodes v c ≡ None
-unseen pieces c none [] v = refl
-unseen pieces c none (x ∷ older) v = by_number (x.number == v) (unseen pieces c none older x.parent) (unseen pieces c none older v)
-  where
-    by_number : (b : Bool) → seen_at pieces older x.parent c ≡ None → seen_at pieces older v c ≡ None → cond b (option_or (stored_at pieces v c) (seen_at pieces older x.parent c)) (seen_at pieces older v c) ≡ None
-    by_number true up along = rw (none v, up) refl
-    by_number false up along = along
-
-late_seen : (p : Parts) (version table : ℕ) (key : List Value) (t : ℕ) → keep_rules p ≡ true → END ≤ t → seen p version (cell table key t) ≡ None
-late_seen p version table key t rules late =
-    let r = ruled p rules in
-    let all = and_parts (differ collide p.pieces) (list_all (is_piece (table_of p.tables) (version_of p.versions) (row_of p.rows) r.counters.next_stamp) p.pieces) r.pieces in
-    unseen p.pieces (cell table key t)
-    (λ v. late_stored (table_of p.tables) (version_of p.versions) (row_of p.rows) r.counters.next_stamp table key t v late p.pieces all.1) (newest_first p.versions) version
-
--- ---- the rows of a key
 
 -- the stretches of the pieces that a version has for a key are those of the rows that it holds
 pub are_rows : (p : Parts) (version table : ℕ) (key : List Value) (ps : List Piece) → keep_rules p ≡ true → Between 0 ps END
@@ -109,9 +55,9 @@ are_rows p version table key ps rules order same =
     subst (AreRowsOf p version table key) (sym (stretches_are ps))
     (record { maximal = maximal 0 ps END order; held = λ t. value 0 ps END order t ∙ ap (option_and_then standing) (by_time t (nat_lt t END) refl) })
   where
-    by_time : (t : ℕ) (b : Bool) → nat_lt t END ≡ b → held_at ps t ≡ seen p version (cell table key t)
+    by_time : (t : ℕ) (b : Bool) → nat_lt t END ≡ b → held_at ps t ≡ seen p version (record { table = table; key = key; time = t })
     by_time t true e = same t (below t END e)
-    by_time t false e = held_at-past 0 ps END t order (above t END e) ∙ sym (late_seen p version table key t rules (above t END e))
+    by_time t false e = held_at-past 0 ps END t order (above t END e) ∙ sym (late_seen p version (record { table = table; key = key; time = t }) rules (above t END e))
 
 pub adds_rows : (p : Parts) (version table : ℕ) (valid : Bool) (within : Span) (key : List Value) (ps : List Piece) (old new : List Row) → keep_rules p ≡ true → Between 0 ps END
     → ((t : ℕ) → t < END → held_at ps t ≡ seen p version (record { table = table; key = key; time = t })) → new ≡ old ++ shown_on p valid within (stretches_on ps) → AddsRows p version table valid within key old new

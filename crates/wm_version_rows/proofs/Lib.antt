@@ -5,4 +5,5 @@ pub mod Onward
 pub mod Along
 pub mod Spans
 pub mod Spanning
+pub mod Late
 pub mod Gathering
