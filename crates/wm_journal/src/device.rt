@@ -120,7 +120,8 @@ pub(crate) fn make_fault(failed: DiskFailed) -> MakeFault
     }
 }
 
-pub(crate) fn open_fault(failed: DiskFailed) -> OpenFault
+/// The fault of a store that is opened.
+pub fn open_fault(failed: DiskFailed) -> OpenFault
     ensures disk { result ≡ OpenFault.Disk → failed ≡ DiskFailed.Failed }
     ensures memory { result ≡ OpenFault.Memory → failed ≡ DiskFailed.Memory }
     ensures silent { IsSilent result }
@@ -131,7 +132,8 @@ pub(crate) fn open_fault(failed: DiskFailed) -> OpenFault
     }
 }
 
-pub(crate) fn store_fault(failed: DiskFailed) -> StoreFault
+/// The fault of a store that is read or changed.
+pub fn store_fault(failed: DiskFailed) -> StoreFault
     ensures disk { result ≡ StoreFault.Disk → failed ≡ DiskFailed.Failed }
     ensures memory { result ≡ StoreFault.Memory → failed ≡ DiskFailed.Memory }
     ensures not_changed { result ≡ StoreFault.Changed → ⊥ }

@@ -8,4 +8,5 @@ mod header;
 mod journal;
 mod replay;
 
+pub use device::{open_fault, store_fault};
 pub use journal::Journal;

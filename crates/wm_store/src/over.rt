@@ -21,9 +21,10 @@ use crate::station_pages::{StationPages, whole_pages};
 use std::alloc::Global;
 use wm_base::{Bytes, OpenFault, StoreFault};
 use wm_heap::{Blobs, Heap};
+use wm_journal::{open_fault, store_fault};
 use wm_page::{PAGE_SIZE, PageBatch};
 use wm_spec::record::Records;
-use wm_station::{DiskFailed, Station};
+use wm_station::Station;
 
 /// The heap and the records of a store with so many pages, whose station is at rest.
 #[tactic(auto, using(crate::proofs::Pasts::past_injective))]
@@ -45,8 +46,7 @@ pub fn load_over<P: Station>(
 {
     let whole = match whole_pages(station) {
         Ok(whole) => whole,
-        Err(DiskFailed::Failed) => return Err(OpenFault::Disk),
-        Err(DiskFailed::Memory) => return Err(OpenFault::Memory),
+        Err(failed) => return Err(open_fault(failed)),
     };
     let mut pages = StationPages {
         station,
@@ -56,8 +56,8 @@ pub fn load_over<P: Station>(
     load_pages(alloc, &mut pages)
 }
 
-/// The pages that change the heap of a store with so many pages, whose station is at rest. The length of its file is not
-/// asked: a page that is not there is a fault of the disk.
+/// The pages that change the heap of a store with so many pages, whose station is at rest. The length of its file is
+/// not asked: a page that is not there is a fault of the disk.
 #[tactic(auto, using(crate::proofs::Pasts::past_injective))]
 pub fn plan_over<P: Station>(
     alloc: Global,
@@ -117,8 +117,7 @@ pub fn altering_over<P: Station>(
 {
     let whole = match whole_pages(station) {
         Ok(whole) => whole,
-        Err(DiskFailed::Failed) => return Err(StoreFault::Disk),
-        Err(DiskFailed::Memory) => return Err(StoreFault::Memory),
+        Err(failed) => return Err(store_fault(failed)),
     };
     // Another writer cut the file.
     if whole < count {
@@ -183,8 +182,7 @@ pub fn get_over<P: Station>(
 {
     let whole = match whole_pages(station) {
         Ok(whole) => whole,
-        Err(DiskFailed::Failed) => return Err(StoreFault::Disk),
-        Err(DiskFailed::Memory) => return Err(StoreFault::Memory),
+        Err(failed) => return Err(store_fault(failed)),
     };
     let mut pages = StationPages {
         station,
