@@ -66,7 +66,7 @@ packed_count xs count bytes packed =
 
 -- ---- slots that are dropped
 
--- the slots of which some were dropped: those kept, up to a place in the bytes, and those that are still to be looked at
+-- the slots of which some were dropped: those kept, up to a place in the bytes, and those still to be looked at
 pub record Dropping (keep : Slot → Bool) (xs : List Slot) (count from : ℕ) (bytes : List ℕ) : Type 0 where
   pub done : List Slot
   pub todo : List Slot

@@ -75,8 +75,8 @@ pub record Done (old new : Heap) (was now : List (ℕ × List Slot)) (held : ℕ
   pub stands : Stands new now held in_use in_file
   pub bytes_are : (j : ℕ) → bytes_now new now held j ≡ (if j == id then bytes else bytes_now old was held j)
 
--- a step that puts so many bytes: no page has more than so many beyond what it had, and one is added only where the last
--- page had no room for them
+-- a step that puts so many bytes: no page has more than so many beyond what it had, and one is added only where the
+-- last page had no room for them
 pub record IsLean (old new : Heap) (was now : List (ℕ × List Slot)) (held : ℕ → List ℕ) (size : ℕ) : Type 0 where
   pub more : (p : ℕ) → used (slots_now now held p) ≤ used (slots_now was held p) + size
   pub full : page_count old < page_count new → 2 < page_count old → 4096 < used (slots_now was held (page_count old - 1)) + size

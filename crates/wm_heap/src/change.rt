@@ -126,9 +126,9 @@ impl Heap {
         Ok(())
     }
 
-    /// Whether so many bytes that are put again under an id stay on their page, which has these other slots: they fit, and
-    /// do not go along. What changes with each line, as the counters do, goes along to the page that takes what is new, and
-    /// a line mostly writes one page in place of two.
+    /// Whether so many bytes that are put again under an id stay on their page, which has these other slots: they fit,
+    /// and do not go along. What changes with each line, as the counters do, goes along to the page that takes what is
+    /// new, and a line mostly writes one page in place of two.
     fn stays(&self, id: u64, page: u64, slots: &Slots, len: usize) -> bool
         ensures { result ≡ true → used slots.now + 10 + len ≤ 4096 }
     {

@@ -24,8 +24,8 @@ const EMPTY: usize = 4094;
 /// How many changes are kept in mind: those of a few lines.
 const RECENT: usize = 32;
 
-/// Which pages have room, as far as it is known. A page is looked at before anything is put on it, so that what is wrong
-/// here, where another writer changed the pages, costs room and no record.
+/// Which pages have room, as far as it is known. A page is looked at before anything is put on it, so that what is
+/// wrong here, where another writer changed the pages, costs room and no record.
 #[derive(Drop)]
 pub struct Room {
     /// The page that took the last record that had no place. It is filled before another is begun.
