@@ -12,8 +12,10 @@ use Rattle.std.specs.Ordering.{nat_cmp}
 use Rattle.std.specs.declared.alloc.Global.{Global}
 use Rattle.std.specs.declared.cmp.Ordering.TheVariants.{Less}
 use Rattle.std.specs.declared.vec.Vec.{Vec}
-use Rattle.wm_chunks.proofs.Placing.{from_less, is_at-apart, is_at-same, less_than, none_above, none_below, within_from}
-use Rattle.wm_chunks.specs.Numbers.{AreChunks, IsChunk, RiseFrom, RiseWithin, Sets, entries_found, joined, last_number, value_at}
+use Rattle.wm_chunks.proofs.Placing.{is_at-apart, is_at-same, none_above, none_below, within_from}
+use Rattle.wm_chunks.proofs.Rising.{from_less, less_than}
+use Rattle.wm_chunks.specs.Numbers.{AreChunks, IsChunk, RiseWithin, Sets, entries_found, entry_number, joined, last_number, value_at}
+use Rattle.wm_chunks.specs.Rising.{RiseFrom}
 
 -- each chunk has the numbers of its place, and stands behind those before it
 abbrev pub ChunksFrom : {V : Type 0} → ℕ → List (ℕ × Vec (ℕ × V) Global) → Type 0
@@ -54,20 +56,20 @@ chunked cs are = chunks_from 0 cs are.ordered (all_from cs) (λ place d is. (are
 
 -- ---- they ascend
 
-pub rise-append : {V : Type 0} (low high : ℕ) (es fs : List (ℕ × V)) → RiseWithin low high es → RiseFrom high fs → RiseFrom low (es ++ fs)
-rise-append low high [] fs up more = from_less low high fs up more
+pub rise-append : {V : Type 0} (low high : ℕ) (es fs : List (ℕ × V)) → RiseWithin low high es → RiseFrom entry_number high fs → RiseFrom entry_number low (es ++ fs)
+rise-append low high [] fs up more = from_less entry_number low high fs up more
 rise-append low high (e ∷ es) fs up more = (up.0, rise-append (e.0 + 1) high es fs up.1 more)
 
-joined_rises : {V : Type 0} (low : ℕ) (cs : List (ℕ × Vec (ℕ × V) Global)) → ChunksFrom low cs → RiseFrom (low * 32) (joined cs)
+joined_rises : {V : Type 0} (low : ℕ) (cs : List (ℕ × Vec (ℕ × V) Global)) → ChunksFrom low cs → RiseFrom entry_number (low * 32) (joined cs)
 joined_rises low [] up = tt
 joined_rises low (c ∷ cs) up =
     let first : low ≤ c.0 = up.0 in
-    from_less (low * 32) (c.0 * 32) (joined (c ∷ cs)) (omega (arith, first))
+    from_less entry_number (low * 32) (c.0 * 32) (joined (c ∷ cs)) (omega (arith, first))
     (rise-append (c.0 * 32) (c.0 * 32 + 32) c.1.items (joined cs) up.1
-    (from_less (c.0 * 32 + 32) ((c.0 + 1) * 32) (joined cs) (omega arith) (joined_rises (c.0 + 1) cs up.2)))
+    (from_less entry_number (c.0 * 32 + 32) ((c.0 + 1) * 32) (joined cs) (omega arith) (joined_rises (c.0 + 1) cs up.2)))
 
-pub all_rise : {V : Type 0} (cs : List (ℕ × Vec (ℕ × V) Global)) → AreChunks cs → RiseFrom 0 (joined cs)
-all_rise cs are = from_less 0 (0 * 32) (joined cs) (omega arith) (joined_rises 0 cs (chunked cs are))
+pub all_rise : {V : Type 0} (cs : List (ℕ × Vec (ℕ × V) Global)) → AreChunks cs → RiseFrom entry_number 0 (joined cs)
+all_rise cs are = from_less entry_number 0 (0 * 32) (joined cs) (omega arith) (joined_rises 0 cs (chunked cs are))
 
 -- ---- what is found in them
 

@@ -11,11 +11,12 @@ use Rattle.std.specs.declared.alloc.Global.{Global}
 use Rattle.std.specs.declared.vec.Vec.{Vec}
 use Rattle.wm_chunks.proofs.Joining.{Changes, all_rise, last-behind, or_none, rise-append, set_chunks, value-append, value_in}
 use Rattle.wm_chunks.proofs.Placing.{TellsLast, is_at-apart, is_at-same, last_told, none_above, none_below, rising_ordered, value-apart, value-same, within_from}
-use Rattle.wm_chunks.specs.Numbers.{AreChunks, AreOrdered, IsChunk, IsNewest, Numbers, RiseFrom, RiseWithin, Sets, entries_found, joined, last_number, numbers, value_at}
+use Rattle.wm_chunks.specs.Numbers.{AreChunks, AreOrdered, IsChunk, IsNewest, Numbers, RiseWithin, Sets, entries_found, entry_number, joined, last_number, numbers, value_at}
+use Rattle.wm_chunks.specs.Rising.{RiseFrom}
 
 -- ---- they ascend
 
-rise_before : {V : Type 0} (low high : ℕ) (es : List (ℕ × V)) → RiseFrom low es → low ≤ high → ((q : ℕ) → high ≤ q → value_at es q ≡ None) → RiseWithin low high es
+rise_before : {V : Type 0} (low high : ℕ) (es : List (ℕ × V)) → RiseFrom entry_number low es → low ≤ high → ((q : ℕ) → high ≤ q → value_at es q ≡ None) → RiseWithin low high es
 rise_before low high [] up le none = le
 rise_before {V} low high (e ∷ es) up le none = by_place (cases_lt e.0 high) (rise_before (e.0 + 1) high es up.1)
   where
@@ -27,7 +28,7 @@ rise_before {V} low high (e ∷ es) up le none = by_place (cases_lt e.0 high) (r
     by_place (inr more) rest = valued (sym (value-same e es e.0 refl) ∙ none e.0 more)
 
 module _ {V : Type 0} where
-  newest_rises : (cs : List (ℕ × Vec (ℕ × V) Global)) (place : ℕ) (es : List (ℕ × V)) → IsNewest cs place es → RiseFrom 0 (joined cs ++ es)
+  newest_rises : (cs : List (ℕ × Vec (ℕ × V) Global)) (place : ℕ) (es : List (ℕ × V)) → IsNewest cs place es → RiseFrom entry_number 0 (joined cs ++ es)
   newest_rises cs place es is =
       rise-append 0 (place * 32) (joined cs) es (rise_before 0 (place * 32) (joined cs) (all_rise cs is.older) (omega arith) is.below)
       (within_from (place * 32) (place * 32 + 32) es is.own)

@@ -1,28 +1,19 @@
 -- Numbers that ascend: one is sought, and its value is set or taken out.
-use Rattle.std.proofs.Common.{◌≡◌, ◌≢◌, ℕ, zero, suc, ◌<◌, ◌≤◌, ◌+◌, Bool, true, false, cond, List, [], ◌∷◌, length, get_or, insert, remove, Option, Some, None, is_some, IsSome, IfNone, IfSome, Result, Ok, Err, IfOk, IfErr, refl, sym, ap, subst, ◌∙◌, ◌⊎◌, inl, inr, arith}
+use Rattle.std.proofs.Common.{◌≡◌, ◌≢◌, ℕ, zero, suc, ◌<◌, ◌≤◌, ◌+◌, Bool, true, false, cond, List, [], ◌∷◌, length, get_or, insert, remove, Option, Some, None, is_some, IsSome, IfNone, IfSome, refl, sym, ap, subst, ◌∙◌, ◌⊎◌, inl, inr, arith}
 use Rattle.std.proofs.Math.ListN.{set}
 use Rattle.std.proofs.lemmas.Bool.{cases_lt, cases_eq}
-use Rattle.std.proofs.lemmas.Cmp.{ranked}
 use Rattle.std.specs.BTreeMap.{is_at}
 use Rattle.std.specs.Cmp.{nat_cmp_is}
 use Rattle.std.specs.List.{AllByRecursion}
-use Rattle.std.specs.List.Sorted.{IsBinarySearchResult, IsNonDecreasingBy, IsPartitionPoint, IsSearchInRange, IsStrictlySortedBy}
+use Rattle.std.specs.List.Sorted.{IsStrictlySortedBy}
 use Rattle.std.specs.Map.{keys_of}
-use Rattle.std.specs.Ordering.{is_eq, nat_cmp, ordering_index}
-use Rattle.std.specs.declared.cmp.Ordering.{Ordering}
-use Rattle.std.specs.declared.cmp.Ordering.TheVariants.{Less, Equal, Greater}
-use Rattle.wm_chunks.specs.Numbers.{AreOrdered, FitsAt, RiseFrom, RiseWithin, Sets, StandsAt, last_number, value_at}
+use Rattle.std.specs.Ordering.{is_eq, nat_cmp}
+use Rattle.std.specs.declared.cmp.Ordering.TheVariants.{Less, Equal}
+use Rattle.wm_chunks.proofs.Rising.{greater_is, less_is}
+use Rattle.wm_chunks.specs.Numbers.{AreOrdered, RiseWithin, Sets, entry_number, last_number, value_at}
+use Rattle.wm_chunks.specs.Rising.{FitsAt, RiseFrom, StandsAt}
 
 -- ---- the order of numbers
-
-less_is : (m n : ℕ) → m < n → nat_cmp m n ≡ Less
-less_is m n less = sym (nat_cmp_is m n Less less)
-
-greater_is : (m n : ℕ) → n < m → nat_cmp m n ≡ Greater
-greater_is m n more = sym (nat_cmp_is m n Greater more)
-
-pub less_than : (m n : ℕ) → nat_cmp m n ≡ Less → m < n
-less_than m n e = ranked m n Less (sym e)
 
 -- the test for a number
 pub is_at-same : (m n : ℕ) → m ≡ n → is_at (nat_cmp m) n ≡ true
@@ -50,20 +41,16 @@ value-apart e es q apart = ap (λ b. cond b (Some e.1) (value_at es q)) (is_at-a
 
 -- ---- numbers that rise
 
-pub from_less : {V : Type 0} (a b : ℕ) (es : List (ℕ × V)) → a ≤ b → RiseFrom b es → RiseFrom a es
-from_less a b [] less up = tt
-from_less a b (e ∷ es) less up = (let first = up.0 in omega (arith, first, less), up.1)
-
 pub within_less : {V : Type 0} (a b high : ℕ) (es : List (ℕ × V)) → a ≤ b → RiseWithin b high es → RiseWithin a high es
 within_less a b high [] less up = omega (arith, less, up)
 within_less a b high (e ∷ es) less up = (let first = up.0 in omega (arith, first, less), up.1)
 
-pub within_from : {V : Type 0} (low high : ℕ) (es : List (ℕ × V)) → RiseWithin low high es → RiseFrom low es
+pub within_from : {V : Type 0} (low high : ℕ) (es : List (ℕ × V)) → RiseWithin low high es → RiseFrom entry_number low es
 within_from low high [] up = tt
 within_from low high (e ∷ es) up = (up.0, within_from (e.0 + 1) high es up.1)
 
 -- a number below all has no value
-pub none_below : {V : Type 0} (low q : ℕ) (es : List (ℕ × V)) → RiseFrom low es → q < low → value_at es q ≡ None
+pub none_below : {V : Type 0} (low q : ℕ) (es : List (ℕ × V)) → RiseFrom entry_number low es → q < low → value_at es q ≡ None
 none_below low q [] up less = refl
 none_below low q (e ∷ es) up less =
     let first = up.0 in
@@ -80,11 +67,11 @@ none_above low high q (e ∷ es) up more =
     let behind = high_above (e.0 + 1) high es up.1 in
     value-apart e es q (λ same. omega (arith, behind, more, same)) ∙ none_above (e.0 + 1) high q es up.1 more
 
-above : {V : Type 0} (k : ℕ) (low : ℕ) (es : List (ℕ × V)) → RiseFrom low es → k < low → AllByRecursion (λ q. nat_cmp k q ≡ Less) (keys_of es)
+above : {V : Type 0} (k : ℕ) (low : ℕ) (es : List (ℕ × V)) → RiseFrom entry_number low es → k < low → AllByRecursion (λ q. nat_cmp k q ≡ Less) (keys_of es)
 above k low [] up less = tt
 above k low (e ∷ es) up less = let first = up.0 in (less_is k e.0 (omega (arith, first, less)), above k (e.0 + 1) es up.1 (omega (arith, first, less)))
 
-pub rising_ordered : {V : Type 0} (low : ℕ) (es : List (ℕ × V)) → RiseFrom low es → AreOrdered es
+pub rising_ordered : {V : Type 0} (low : ℕ) (es : List (ℕ × V)) → RiseFrom entry_number low es → AreOrdered es
 unfolding IsStrictlySortedBy
 rising_ordered low [] up = tt
 rising_ordered low (e ∷ es) up = (above e.0 (e.0 + 1) es up.1 (omega arith), rising_ordered (e.0 + 1) es up.1)
@@ -103,12 +90,12 @@ last_valued [] k is = cc
 last_valued {V} (e ∷ []) k is = ap (λ (o : Option V). is_some o) (value-same e [] k (some_same e.0 k is))
 last_valued (e ∷ f ∷ es) k is = some_cond (is_at (nat_cmp k) e.0) e.1 (value_at (f ∷ es) k) (last_valued (f ∷ es) k is)
 
-last_low : {V : Type 0} (low : ℕ) (es : List (ℕ × V)) (k : ℕ) → RiseFrom low es → last_number es ≡ Some k → low ≤ k
+last_low : {V : Type 0} (low : ℕ) (es : List (ℕ × V)) (k : ℕ) → RiseFrom entry_number low es → last_number es ≡ Some k → low ≤ k
 last_low low [] k up is = cc
 last_low low (e ∷ []) k up is = let first = up.0 in let same = some_same e.0 k is in omega (arith, first, same)
 last_low low (e ∷ f ∷ es) k up is = let first = up.0 in let more = last_low (e.0 + 1) (f ∷ es) k up.1 is in omega (arith, first, more)
 
-pub last_greatest : {V : Type 0} (low : ℕ) (es : List (ℕ × V)) (k : ℕ) → RiseFrom low es → last_number es ≡ Some k → (q : ℕ) → k < q → value_at es q ≡ None
+pub last_greatest : {V : Type 0} (low : ℕ) (es : List (ℕ × V)) (k : ℕ) → RiseFrom entry_number low es → last_number es ≡ Some k → (q : ℕ) → k < q → value_at es q ≡ None
 last_greatest low [] k up is q more = refl
 last_greatest low (e ∷ []) k up is q more = let one = some_same e.0 k is in value-apart e [] q (λ same. omega (arith, one, more, same))
 last_greatest low (e ∷ f ∷ es) k up is q more =
@@ -126,7 +113,7 @@ pub record TellsLast {V : Type 0} (es : List (ℕ × V)) (r : Option ℕ) : Type
   pub valued : IfSome r (λ k. IsSome (value_at es k))
   pub greatest : IfSome r (λ k. (q : ℕ) → k < q → value_at es q ≡ None)
 
-pub last_told : {V : Type 0} (low : ℕ) (es : List (ℕ × V)) (r : Option ℕ) → RiseFrom low es → r ≡ last_number es → TellsLast es r
+pub last_told : {V : Type 0} (low : ℕ) (es : List (ℕ × V)) (r : Option ℕ) → RiseFrom entry_number low es → r ≡ last_number es → TellsLast es r
 last_told low es None up is = record { none = last_none es (sym is); valued = tt; greatest = tt }
 last_told low es (Some k) up is = record { none = tt; valued = last_valued es k (sym is); greatest = last_greatest low es k up (sym is) }
 
@@ -138,93 +125,14 @@ last_at (e ∷ []) (suc i) d is = absurd (omega (arith, is))
 last_at (e ∷ f ∷ es) zero d is = absurd (omega (arith, is))
 last_at (e ∷ f ∷ es) (suc i) d is = last_at (f ∷ es) i d (omega (arith, is))
 
--- ---- a number is sought
-
-from_at : {V : Type 0} (low : ℕ) (es : List (ℕ × V)) (i : ℕ) (d : ℕ × V) → RiseFrom low es → i < length es → low ≤ (get_or es i d).0
-from_at low [] i d up within = absurd (omega (arith, within))
-from_at low (e ∷ es) zero d up within = up.0
-from_at low (e ∷ es) (suc i) d up within =
-    let more = from_at (e.0 + 1) es i d up.1 (omega (arith, within)) in
-    let first = up.0 in
-    omega (arith, more, first)
-
-between : {V : Type 0} (low : ℕ) (es : List (ℕ × V)) (i j : ℕ) (d : ℕ × V) → RiseFrom low es → i < j → j < length es → (get_or es i d).0 < (get_or es j d).0
-between low [] i j d up lt within = absurd (omega (arith, within))
-between low (e ∷ es) i zero d up lt within = absurd (omega (arith, lt))
-between low (e ∷ es) zero (suc j) d up lt within = let more = from_at (e.0 + 1) es j d up.1 (omega (arith, within)) in omega (arith, more)
-between low (e ∷ es) (suc i) (suc j) d up lt within = between (e.0 + 1) es i j d up.1 (omega (arith, lt)) (omega (arith, within))
-
-index_most : (o : Ordering) → ordering_index o ≤ 2
-index_most Less = omega arith
-index_most Equal = omega arith
-index_most Greater = omega arith
-
-search_rises : {V : Type 0} (low : ℕ) (es : List (ℕ × V)) (n : ℕ) → RiseFrom low es → IsNonDecreasingBy (λ (e : ℕ × V). ordering_index (nat_cmp e.0 n)) es
-search_rises {V} low es n up i j d le within = by_place (cases_lt i j)
-  where
-    rises : (a b : ℕ) → a < b → (a < n) ⊎ (n ≤ a) → ordering_index (nat_cmp a n) ≤ ordering_index (nat_cmp b n)
-    rises a b lt (inl less) = rw (less_is a n less) (omega arith)
-    rises a b lt (inr more) = rw (greater_is b n (omega (arith, lt, more))) (index_most (nat_cmp a n))
-
-    same : (k m : ℕ) → k ≡ m → ordering_index (nat_cmp (get_or es k d).0 n) ≤ ordering_index (nat_cmp (get_or es m d).0 n)
-    same k m e = rw e (omega arith)
-
-    by_place : (i < j) ⊎ (j ≤ i) → ordering_index (nat_cmp (get_or es i d).0 n) ≤ ordering_index (nat_cmp (get_or es j d).0 n)
-    by_place (inl lt) = rises (get_or es i d).0 (get_or es j d).0 (between low es i j d up lt within) (cases_lt (get_or es i d).0 n)
-    by_place (inr ge) = same i j (omega (arith, le, ge))
-
--- a number stands where it is found
-pub stands_from : {V : Type 0} (low : ℕ) (es : List (ℕ × V)) (n i : ℕ) (d : ℕ × V) → RiseFrom low es → i < length es → (get_or es i d).0 ≡ n → StandsAt n es i
-stands_from low [] n i d up within same = absurd (omega (arith, within))
-stands_from low (e ∷ es) n zero d up within same = same
-stands_from low (e ∷ es) n (suc i) d up within same =
-    let more = from_at (e.0 + 1) es i d up.1 (omega (arith, within)) in
-    (omega (arith, more, same), stands_from (e.0 + 1) es n i d up.1 (omega (arith, within)) same)
-
-fits_from : {V : Type 0} (es : List (ℕ × V)) (n i : ℕ) → i ≤ length es → ((k : ℕ) (d : ℕ × V) → k < i → (get_or es k d).0 < n)
-    → ((k : ℕ) (d : ℕ × V) → i ≤ k → k < length es → n < (get_or es k d).0) → FitsAt n es i
-fits_from [] n zero within smaller greater = tt
-fits_from [] n (suc i) within smaller greater = absurd (omega (arith, within))
-fits_from (e ∷ es) n zero within smaller greater = greater zero e (omega arith) (omega arith)
-fits_from (e ∷ es) n (suc i) within smaller greater = (
-  smaller zero e (omega arith),
-  fits_from es n i (omega (arith, within)) (λ k d less. smaller (suc k) d (omega (arith, less))) (λ k d le less. greater (suc k) d (omega (arith, le)) (omega (arith, less))),
-)
-
--- one that is greater than the last fits behind all
-pub fits_behind : {V : Type 0} (low : ℕ) (es : List (ℕ × V)) (n last : ℕ) (d : ℕ × V) → RiseFrom low es → last + 1 ≡ length es → (get_or es last d).0 < n → FitsAt n es (length es)
-fits_behind low [] n last d up is less = tt
-fits_behind low (e ∷ []) n zero d up is less = (less, tt)
-fits_behind low (e ∷ f ∷ fs) n zero d up is less = absurd (omega (arith, is))
-fits_behind low (e ∷ es) n (suc last) d up is less =
-    let more = from_at (e.0 + 1) es last d up.1 (omega (arith, is)) in
-    (omega (arith, more, less), fits_behind (e.0 + 1) es n last d up.1 (omega (arith, is)) less)
-
--- where it stands, or where it may be put
-pub found_entry : {V : Type 0} (low : ℕ) (es : List (ℕ × V)) (n : ℕ) (r : Result ℕ ℕ) → RiseFrom low es → IsSearchInRange r (length es) → IsBinarySearchResult (λ (e : ℕ × V). nat_cmp e.0 n) es r → IfOk r (λ i. StandsAt n es i)
-found_entry low [] n (Ok i) up within equal = absurd (omega (arith, within))
-found_entry low (e ∷ es) n (Ok i) up within equal = stands_from low (e ∷ es) n i e up within (ranked (get_or (e ∷ es) i e).0 n Equal (sym (equal e)))
-found_entry low es n (Err i) up within equal = tt
-
-pub fitting_entry : {V : Type 0} (low : ℕ) (es : List (ℕ × V)) (n : ℕ) (r : Result ℕ ℕ) → RiseFrom low es → IsSearchInRange r (length es) → IsBinarySearchResult (λ (e : ℕ × V). nat_cmp e.0 n) es r → IfErr r (λ i. FitsAt n es i)
-fitting_entry low es n (Ok i) up within point = tt
-fitting_entry {V} low es n (Err i) up within point =
-    let parts : IsPartitionPoint (λ (e : ℕ × V). nat_cmp e.0 n ≡ Less) (λ (e : ℕ × V). nat_cmp e.0 n ≡ Greater) es i = point (search_rises low es n up) in
-    fits_from es n i within (λ k d less. less_than (get_or es k d).0 n (parts.0 k d (omega arith) less)) (λ k d le less. ranked (get_or es k d).0 n Greater (sym (parts.1 k d le less)))
-
 -- ---- what it has
 
-pub number_standing : {V : Type 0} (es : List (ℕ × V)) (n i : ℕ) (d : ℕ × V) → StandsAt n es i → (get_or es i d).0 ≡ n
-number_standing [] n i d stands = absurd stands
-number_standing (e ∷ es) n zero d stands = stands
-number_standing (e ∷ es) n (suc i) d stands = number_standing es n i d stands.1
-
-pub value_standing : {V : Type 0} (es : List (ℕ × V)) (n i : ℕ) (d : ℕ × V) → StandsAt n es i → value_at es n ≡ Some (get_or es i d).1
+pub value_standing : {V : Type 0} (es : List (ℕ × V)) (n i : ℕ) (d : ℕ × V) → StandsAt entry_number n es i → value_at es n ≡ Some (get_or es i d).1
 value_standing [] n i d stands = absurd stands
 value_standing (e ∷ es) n zero d stands = value-same e es n stands
 value_standing (e ∷ es) n (suc i) d stands = value-apart e es n (λ same. let less = stands.0 in omega (arith, less, same)) ∙ value_standing es n i d stands.1
 
-pub value_none : {V : Type 0} (low : ℕ) (es : List (ℕ × V)) (n i : ℕ) → FitsAt n es i → RiseFrom low es → value_at es n ≡ None
+pub value_none : {V : Type 0} (low : ℕ) (es : List (ℕ × V)) (n i : ℕ) → FitsAt entry_number n es i → RiseFrom entry_number low es → value_at es n ≡ None
 value_none low [] n i fits up = refl
 value_none low (e ∷ es) n zero fits up = none_below e.0 n (e ∷ es) (omega arith, up.1) fits
 value_none low (e ∷ es) n (suc i) fits up = value-apart e es n (λ same. let less = fits.0 in omega (arith, less, same)) ∙ value_none (e.0 + 1) es n i fits.1 up.1
@@ -250,18 +158,18 @@ front n v k es fs same others q = by_place (cases_eq q n)
     by_place (inr away) =
         value-apart (k, v) es q (λ e. away (e ∙ same)) ∙ sym (others q away) ∙ sym (ap (λ b. cond b (Some v) (value_at fs q)) (is_at-apart n q (λ e. away (sym e))))
 
-pub set_told : {V : Type 0} (es : List (ℕ × V)) (n i : ℕ) (new : ℕ × V) → StandsAt n es i → new.0 ≡ n → Sets n (Some new.1) es (set es i new)
+pub set_told : {V : Type 0} (es : List (ℕ × V)) (n i : ℕ) (new : ℕ × V) → StandsAt entry_number n es i → new.0 ≡ n → Sets n (Some new.1) es (set es i new)
 set_told [] n i new stands same = absurd stands
 set_told (e ∷ es) n zero new stands same = front n new.1 new.0 es (e ∷ es) same (λ q away. value-apart e es q (λ here. away (here ∙ stands)))
 set_told (e ∷ es) n (suc i) new stands same = behind n (Some new.1) e es (set es i new) stands.0 (set_told es n i new stands.1 same)
 
-pub insert_told : {V : Type 0} (es : List (ℕ × V)) (n i : ℕ) (new : ℕ × V) → FitsAt n es i → new.0 ≡ n → Sets n (Some new.1) es (insert es i new)
+pub insert_told : {V : Type 0} (es : List (ℕ × V)) (n i : ℕ) (new : ℕ × V) → FitsAt entry_number n es i → new.0 ≡ n → Sets n (Some new.1) es (insert es i new)
 insert_told [] n zero new fits same = front n new.1 new.0 [] [] same (λ q away. refl)
 insert_told [] n (suc i) new fits same = absurd fits
 insert_told (e ∷ es) n zero new fits same = front n new.1 new.0 (e ∷ es) (e ∷ es) same (λ q away. refl)
 insert_told (e ∷ es) n (suc i) new fits same = behind n (Some new.1) e es (insert es i new) fits.0 (insert_told es n i new fits.1 same)
 
-pub remove_told : {V : Type 0} (low : ℕ) (es : List (ℕ × V)) (n i : ℕ) → StandsAt n es i → RiseFrom low es → Sets n None es (remove es i)
+pub remove_told : {V : Type 0} (low : ℕ) (es : List (ℕ × V)) (n i : ℕ) → StandsAt entry_number n es i → RiseFrom entry_number low es → Sets n None es (remove es i)
 remove_told low [] n i stands up q = absurd stands
 remove_told {V} low (e ∷ es) n zero stands up q = by_place (cases_eq q n)
   where
@@ -285,19 +193,19 @@ gone_told {V} es n none q = by_place (cases_eq n q)
 
 -- ---- they rise as before
 
-pub set_rises : {V : Type 0} (low high : ℕ) (es : List (ℕ × V)) (n i : ℕ) (new : ℕ × V) → StandsAt n es i → new.0 ≡ n → RiseWithin low high es → RiseWithin low high (set es i new)
+pub set_rises : {V : Type 0} (low high : ℕ) (es : List (ℕ × V)) (n i : ℕ) (new : ℕ × V) → StandsAt entry_number n es i → new.0 ≡ n → RiseWithin low high es → RiseWithin low high (set es i new)
 set_rises low high [] n i new stands same up = absurd stands
 set_rises low high (e ∷ es) n zero new stands same up = subst (λ k. (low ≤ k) × RiseWithin (k + 1) high es) (stands ∙ sym same) up
 set_rises low high (e ∷ es) n (suc i) new stands same up = (up.0, set_rises (e.0 + 1) high es n i new stands.1 same up.1)
 
-pub insert_rises : {V : Type 0} (low high : ℕ) (es : List (ℕ × V)) (n i : ℕ) (new : ℕ × V) → FitsAt n es i → new.0 ≡ n → low ≤ n → n < high → RiseWithin low high es → RiseWithin low high (insert es i new)
+pub insert_rises : {V : Type 0} (low high : ℕ) (es : List (ℕ × V)) (n i : ℕ) (new : ℕ × V) → FitsAt entry_number n es i → new.0 ≡ n → low ≤ n → n < high → RiseWithin low high es → RiseWithin low high (insert es i new)
 insert_rises low high [] n zero new fits same more less up = (omega (arith, same, more), omega (arith, same, less))
 insert_rises low high [] n (suc i) new fits same more less up = absurd fits
 insert_rises low high (e ∷ es) n zero new fits same more less up = (omega (arith, same, more), (omega (arith, fits, same), up.1))
 insert_rises low high (e ∷ es) n (suc i) new fits same more less up =
     (up.0, insert_rises (e.0 + 1) high es n i new fits.1 same (let smaller = fits.0 in omega (arith, smaller)) less up.1)
 
-pub remove_rises : {V : Type 0} (low high : ℕ) (es : List (ℕ × V)) (n i : ℕ) → StandsAt n es i → RiseWithin low high es → RiseWithin low high (remove es i)
+pub remove_rises : {V : Type 0} (low high : ℕ) (es : List (ℕ × V)) (n i : ℕ) → StandsAt entry_number n es i → RiseWithin low high es → RiseWithin low high (remove es i)
 remove_rises low high [] n i stands up = absurd stands
 remove_rises low high (e ∷ es) n zero stands up = within_less low (e.0 + 1) high es (let first = up.0 in omega (arith, first)) up.1
 remove_rises low high (e ∷ es) n (suc i) stands up = (up.0, remove_rises (e.0 + 1) high es n i stands.1 up.1)

@@ -1,5 +1,5 @@
 -- Values under numbers, and the chunks that they are kept in.
-use Rattle.std.specs.Prelude.{◌≡◌, ℕ, zero, suc, ◌+◌, ◌*◌, ◌<◌, ◌≤◌, if◌then◌else◌, List, [], ◌∷◌, ◌++◌, length, Option, Some, None, option_map, unwrap_or, refl}
+use Rattle.std.specs.Prelude.{◌≡◌, ℕ, ◌+◌, ◌*◌, ◌<◌, ◌≤◌, if◌then◌else◌, List, [], ◌∷◌, ◌++◌, length, Option, Some, None, option_map, unwrap_or, refl}
 use Rattle.std.specs.BTreeMap.{is_at}
 use Rattle.std.specs.Coded.{Coded, code_by, coded×, coded_list, coded_ℕ}
 use Rattle.std.specs.List.Sorted.{IsStrictlySortedBy}
@@ -19,6 +19,10 @@ module _ {V : Type 0} where
   abbrev pub numbers_code : Coded V → Coded (Numbers V)
   numbers_code code = code_by (List (ℕ × V)) (coded_list (coded× coded_ℕ code)) (λ m. m.entries) numbers (λ _. refl)
 
+  -- the number of an entry
+  abbrev pub entry_number : ℕ × V → ℕ
+  entry_number e = e.0
+
   -- the value of a number
   abbrev pub value_at : List (ℕ × V) → ℕ → Option V
   value_at es n = lookup (is_at (nat_cmp n)) es
@@ -37,12 +41,7 @@ module _ {V : Type 0} where
   last_number (e ∷ []) = Some e.0
   last_number (e ∷ f ∷ es) = last_number (f ∷ es)
 
-  -- the numbers ascend, from a bound on
-  abbrev pub RiseFrom : ℕ → List (ℕ × V) → Type 0
-  RiseFrom low [] = Unit {0}
-  RiseFrom low (e ∷ es) = (low ≤ e.0) × RiseFrom (e.0 + 1) es
-
-  -- they do so up to before another bound
+  -- the numbers ascend, from a bound on up to before another
   abbrev pub RiseWithin : ℕ → ℕ → List (ℕ × V) → Type 0
   RiseWithin low high [] = low ≤ high
   RiseWithin low high (e ∷ es) = (low ≤ e.0) × RiseWithin (e.0 + 1) high es
@@ -50,19 +49,6 @@ module _ {V : Type 0} where
   -- they are those of a chunk, which has `WIDTH` of src/chunk.rt
   abbrev pub IsChunk : ℕ → List (ℕ × V) → Type 0
   IsChunk place es = RiseWithin (place * 32) (place * 32 + 32) es
-
-  -- a number stands at a place, behind smaller ones
-  abbrev pub StandsAt : ℕ → List (ℕ × V) → ℕ → Type 0
-  StandsAt n [] place = ⊥
-  StandsAt n (e ∷ es) zero = e.0 ≡ n
-  StandsAt n (e ∷ es) (suc place) = (e.0 < n) × StandsAt n es place
-
-  -- a number may be put at a place: behind smaller ones, and before a greater one or the end
-  abbrev pub FitsAt : ℕ → List (ℕ × V) → ℕ → Type 0
-  FitsAt n [] zero = Unit {0}
-  FitsAt n [] (suc place) = ⊥
-  FitsAt n (e ∷ es) zero = n < e.0
-  FitsAt n (e ∷ es) (suc place) = (e.0 < n) × FitsAt n es place
 
   -- the entries of all chunks, one behind another
   abbrev pub joined : List (ℕ × Vec (ℕ × V) Global) → List (ℕ × V)

@@ -2,7 +2,8 @@
 
 ghost use Rattle.std.specs.Prelude.{◌≡◌, ◌<◌, ◌≤◌, ◌/◌, length, true, None, Some, IfErr, IfOk, OnErr, OnOk};
 ghost use Rattle.std.specs.Option.{option_copied};
-ghost use Rattle.wm_chunks.specs.Numbers.{FitsAt, IsChunk, Sets, StandsAt, last_number, value_at};
+ghost use Rattle.wm_chunks.specs.Numbers.{IsChunk, Sets, entry_number, last_number, value_at};
+ghost use Rattle.wm_chunks.specs.Rising.{FitsAt, StandsAt};
 
 use std::alloc::AllocError;
 use std::mem::replace;
@@ -13,9 +14,9 @@ pub const WIDTH: u64 = 32;
 /// Where a number stands, or else where it may be put, by halving.
 fn search<V>(chunk: &[(u64, V)], number: u64) -> Result<usize, usize>
     requires { IsChunk (number / 32) chunk.now }
-    ensures found { IfOk result (λ place. StandsAt number chunk.now place) }
+    ensures found { IfOk result (λ place. StandsAt entry_number number chunk.now place) }
     ensures within { IfOk result (λ place. place < length chunk.now) }
-    ensures fits { IfErr result (λ place. FitsAt number chunk.now place) }
+    ensures fits { IfErr result (λ place. FitsAt entry_number number chunk.now place) }
     ensures between { IfErr result (λ place. place ≤ length chunk.now) }
 {
     chunk.binary_search_by(|entry| entry.0.cmp(&number))
@@ -25,7 +26,7 @@ fn search<V>(chunk: &[(u64, V)], number: u64) -> Result<usize, usize>
 fn stands_at<V>(chunk: &[(u64, V)], number: u64, place: usize) -> bool
     requires { IsChunk (number / 32) chunk.now }
     ensures within { result ≡ true → place < length chunk.now }
-    ensures stands { result ≡ true → StandsAt number chunk.now place }
+    ensures stands { result ≡ true → StandsAt entry_number number chunk.now place }
 {
     place < chunk.len() && chunk[place].0 == number
 }
@@ -33,7 +34,7 @@ fn stands_at<V>(chunk: &[(u64, V)], number: u64, place: usize) -> bool
 /// Whether a number is behind all others.
 fn is_behind<V>(chunk: &[(u64, V)], number: u64) -> bool
     requires { IsChunk (number / 32) chunk.now }
-    ensures { result ≡ true → FitsAt number chunk.now (length chunk.now) }
+    ensures { result ≡ true → FitsAt entry_number number chunk.now (length chunk.now) }
 {
     match chunk {
         [] => true,
@@ -45,9 +46,9 @@ fn is_behind<V>(chunk: &[(u64, V)], number: u64) -> bool
 /// ones mostly come behind all others.
 fn find<V>(chunk: &[(u64, V)], number: u64) -> Result<usize, usize>
     requires { IsChunk (number / 32) chunk.now }
-    ensures found { IfOk result (λ place. StandsAt number chunk.now place) }
+    ensures found { IfOk result (λ place. StandsAt entry_number number chunk.now place) }
     ensures within { IfOk result (λ place. place < length chunk.now) }
-    ensures fits { IfErr result (λ place. FitsAt number chunk.now place) }
+    ensures fits { IfErr result (λ place. FitsAt entry_number number chunk.now place) }
     ensures between { IfErr result (λ place. place ≤ length chunk.now) }
 {
     let own = (number % WIDTH) as usize;

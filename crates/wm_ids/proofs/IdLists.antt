@@ -1,31 +1,27 @@
 -- Lists of ids that ascend.
-use Rattle.std.proofs.Common.{◌≡◌, ◌≢◌, ℕ, zero, suc, ◌<◌, ◌≤◌, ◌==◌, nat_lt, Bool, true, false, cond, eqb, List, [], ◌∷◌, length, get_or, insert, remove, Result, MatchResult, refl, sym, ap, ◌∙◌, ◌⊎◌, inl, inr, arith}
-use Rattle.std.proofs.lemmas.Bool.{cases_lt, lt-ltb, le-ltb, eq-eqb, ne_eqb}
+use Rattle.std.proofs.Common.{◌≡◌, ◌≢◌, ℕ, zero, suc, ◌<◌, ◌≤◌, cond, eqb, List, [], ◌∷◌, length, get_or, insert, remove, Result, MatchResult, refl, sym, ap, ◌∙◌, ◌⊎◌, inl, inr, arith}
+use Rattle.std.proofs.lemmas.Bool.{cases_lt, eq-eqb, ne_eqb}
+use Rattle.std.proofs.lemmas.Cmp.{ranked}
 use Rattle.std.proofs.lemmas.List.Sorted.{searched}
 use Rattle.std.proofs.lemmas.Map.Keys.{below_from_sorted}
 use Rattle.std.proofs.lemmas.Result.{MatchResult-weaker}
+use Rattle.std.specs.Cmp.{nat_cmp_is}
 use Rattle.std.specs.List.Sorted.{IsBinarySearchResult, IsStrictlySortedBy}
 use Rattle.std.specs.Ordering.{nat_cmp}
 use Rattle.std.specs.declared.cmp.Ordering.TheVariants.{Less, Equal, Greater}
 use Rattle.wm_ids.specs.Ids.{is_nil, placed, without}
 
 pub less_than : (m n : ℕ) → nat_cmp m n ≡ Less → m < n
-less_than m n e = by_test (nat_lt m n) (m == n) refl e
-  where
-    by_test : (a b : Bool) → nat_lt m n ≡ a → cond a Less (cond b Equal Greater) ≡ Less → m < n
-    by_test true b lt h = grind (arith, lt)
-    by_test false true lt h = cc
-    by_test false false lt h = cc
+less_than m n e = ranked m n Less (sym e)
 
 pub less_is : (m n : ℕ) → m < n → nat_cmp m n ≡ Less
-less_is m n lt = ap (λ b. cond b Less (cond (eqb m n) Equal Greater)) (lt-ltb m n lt)
+less_is m n less = sym (nat_cmp_is m n Less less)
 
 pub greater_is : (m n : ℕ) → n < m → nat_cmp m n ≡ Greater
-greater_is m n lt =
-    ap (λ b. cond b Less (cond (eqb m n) Equal Greater)) (le-ltb m n (omega (arith, lt))) ∙ ap (λ b. cond b Equal Greater) (ne_eqb m n (λ e. absurd (omega (arith, lt, e))))
+greater_is m n more = sym (nat_cmp_is m n Greater more)
 
 pub equal_is : (m n : ℕ) → m ≡ n → nat_cmp m n ≡ Equal
-equal_is m n same = ap (λ b. cond b Less (cond (eqb m n) Equal Greater)) (le-ltb m n (omega (arith, same))) ∙ ap (λ b. cond b Equal Greater) (eq-eqb m n same)
+equal_is m n same = sym (nat_cmp_is m n Equal same)
 
 -- an id put behind smaller ones, before a greater one or at the end
 placed_at : (id : ℕ) (xs : List ℕ) (i : ℕ) → i ≤ length xs → ((k : ℕ) → k < i → get_or xs k 0 < id) → (i < length xs → id < get_or xs i 0) → insert xs i id ≡ placed id xs

@@ -15,10 +15,12 @@ use Rattle.std.specs.declared.vec.Vec.{Vec}
 use Rattle.wm_base.specs.Key.{key_order}
 use Rattle.wm_base.specs.Orders.{key_order-equal, key_order_total}
 use Rattle.wm_base.specs.declared.value.Value.{Value}
-use Rattle.wm_ids.proofs.Placing.{All-without, fits_under, insert_rises, insert_spanned, insert_under, remove_rises, remove_spanned, remove_under, set_rises, set_spanned, set_under, stands_under, stands_version}
+use Rattle.wm_chunks.proofs.Rising.{key_standing}
+use Rattle.wm_ids.proofs.Placing.{All-without, fits_under, insert_rises, insert_spanned, insert_under, remove_rises, remove_spanned, remove_under, set_rises, set_spanned, set_under, stands_under}
 use Rattle.wm_ids.proofs.Widening.{next, one_spanned, put_widens, remove_widens, set_widens, there_spanned, widened_rises, widened_spanned, widened_under, widened_widens}
 use Rattle.wm_ids.specs.Ids.{placed, without}
-use Rattle.wm_ids.specs.Versioned.{AreNested, ChangedOn, ChangedWhere, Encloses, FitsAt, HasLess, HasMore, IsSpanned, IsWithin, StandsAt, Versions, ids_under, versions_found, versions_in, versions_on, widened_from}
+use Rattle.wm_chunks.specs.Rising.{FitsAt, StandsAt}
+use Rattle.wm_ids.specs.Versioned.{AreNested, ChangedOn, ChangedWhere, Encloses, HasLess, HasMore, IsSpanned, IsWithin, Versions, entry_version, ids_under, versions_found, versions_in, versions_on, widened_from}
 use Rattle.wm_ids.specs.declared.versioned.Versioned.{Versioned}
 use Rattle.wm_spec.specs.declared.record.piece.PieceRecord.{PieceRecord}
 use Rattle.wm_spec.specs.declared.record.stored.Stored.{Stored}
@@ -26,7 +28,7 @@ use Rattle.wm_spec.specs.declared.record.stored.Stored.{Stored}
 -- ---- an id more, or less
 
 -- a version that stands there has it
-pub more_there : (es : List Versioned) (i id : ℕ) (x : PieceRecord) (d new : Versioned) → AreNested es → StandsAt x.version es i → i < length es → d ≡ get_or es i d
+pub more_there : (es : List Versioned) (i id : ℕ) (x : PieceRecord) (d new : Versioned) → AreNested es → StandsAt entry_version x.version es i → i < length es → d ≡ get_or es i d
     → new.version ≡ d.version → new.from ≡ d.from → new.till ≡ d.till → new.ids ≡ placed id d.ids → HasMore id x es (widened_from x i (set es i new))
 more_there es i id x d new nested at within is same from till put = record {
   ids = λ v. widened_under x i (set es i new) v ∙ set_under es x.version i new at version v ∙ by_test v (x.version == v) refl;
@@ -39,13 +41,13 @@ more_there es i id x d new nested at within is same from till put = record {
 }
   where
     version : new.version ≡ x.version
-    version = same ∙ ap (λ (e : Versioned). e.version) is ∙ stands_version es x.version i d at
+    version = same ∙ ap (λ (e : Versioned). e.version) is ∙ key_standing entry_version es x.version i d at
 
     by_test : (v : ℕ) (b : Bool) → (x.version == v) ≡ b → cond b new.ids (ids_under es v) ≡ cond b (placed id (ids_under es v)) (ids_under es v)
     by_test v true here = put ∙ ap (placed id) (ap (λ (e : Versioned). e.ids) is ∙ sym (stands_under es x.version i d at) ∙ ap (ids_under es) (eqb-true x.version v here))
     by_test v false here = refl
 
-more_next : (es : List Versioned) (i id : ℕ) (x : PieceRecord) (new : Versioned) → AreNested es → FitsAt x.version es i → i ≤ length es → new.version ≡ x.version → new.ids ≡ id ∷ []
+more_next : (es : List Versioned) (i id : ℕ) (x : PieceRecord) (new : Versioned) → AreNested es → FitsAt entry_version x.version es i → i ≤ length es → new.version ≡ x.version → new.ids ≡ id ∷ []
     → new.from ≤ x.cells.from → x.cells.till ≤ new.till → AllByRecursion (Encloses new) (take i es) → AllByRecursion (IsWithin x new.from new.till) (drop i es)
     → HasMore id x es (widened_from x (i + 1) (insert es i new))
 more_next es i id x new nested at within version put low high older newer = subst (λ n. HasMore id x es (widened_from x n (insert es i new))) (next i) more
@@ -66,7 +68,7 @@ more_next es i id x new nested at within version put low high older newer = subs
         by_test v false here = refl
 
 -- a version that is put there has it
-pub more_put : (es : List Versioned) (i id : ℕ) (x : PieceRecord) (new : Versioned) (from till : ℕ) → AreNested es → FitsAt x.version es i → i ≤ length es → new.version ≡ x.version → new.from ≡ from → new.till ≡ till
+pub more_put : (es : List Versioned) (i id : ℕ) (x : PieceRecord) (new : Versioned) (from till : ℕ) → AreNested es → FitsAt entry_version x.version es i → i ≤ length es → new.version ≡ x.version → new.from ≡ from → new.till ≡ till
     → new.ids ≡ id ∷ [] → from ≤ x.cells.from → x.cells.till ≤ till → AllByRecursion (λ (e : Versioned). (from ≤ e.from) × (e.till ≤ till)) (take i es) → AllByRecursion (IsWithin x from till) (drop i es)
     → HasMore id x es (widened_from x (i + 1) (insert es i new))
 more_put es i id x new from till nested at within version low high put early late older newer =
@@ -75,7 +77,7 @@ more_put es i id x new from till nested at within version low high put early lat
     (subst (λ n. AllByRecursion (IsWithin x n new.till) (drop i es)) (sym low) (subst (λ n. AllByRecursion (IsWithin x from n) (drop i es)) (sym high) newer))
 
 -- a version that stands there has it no more
-pub less_there : (es : List Versioned) (v i id : ℕ) (d new : Versioned) → AreNested es → StandsAt v es i → i < length es → d ≡ get_or es i d
+pub less_there : (es : List Versioned) (v i id : ℕ) (d new : Versioned) → AreNested es → StandsAt entry_version v es i → i < length es → d ≡ get_or es i d
     → new.version ≡ d.version → new.from ≡ d.from → new.till ≡ d.till → new.ids ≡ without id d.ids → HasLess id v es (set es i new)
 less_there es v i id d new nested at within is same from till left = record {
   ids = λ w. set_under es v i new at version w ∙ by_test w (v == w) refl;
@@ -87,7 +89,7 @@ less_there es v i id d new nested at within is same from till left = record {
 }
   where
     version : new.version ≡ v
-    version = same ∙ ap (λ (e : Versioned). e.version) is ∙ stands_version es v i d at
+    version = same ∙ ap (λ (e : Versioned). e.version) is ∙ key_standing entry_version es v i d at
 
     fewer : (ss : List Stored) → AllByRecursion (IsSpanned ss d.from d.till) d.ids → AllByRecursion (IsSpanned ss new.from new.till) new.ids
     fewer ss all =
@@ -100,7 +102,7 @@ less_there es v i id d new nested at within is same from till left = record {
     by_test w false here = refl
 
 -- and goes where it has none left
-pub less_gone : (es : List Versioned) (v i id : ℕ) (d : Versioned) → AreNested es → StandsAt v es i → i < length es → d ≡ get_or es i d → without id d.ids ≡ [] → HasLess id v es (remove es i)
+pub less_gone : (es : List Versioned) (v i id : ℕ) (d : Versioned) → AreNested es → StandsAt entry_version v es i → i < length es → d ≡ get_or es i d → without id d.ids ≡ [] → HasLess id v es (remove es i)
 less_gone es v i id d nested at within is left = record {
   ids = λ w. remove_under 0 es v i at nested.rises w ∙ by_test w (v == w) refl;
   nested = record { rises = remove_rises 0 es v i at nested.rises; widens = remove_widens es i within nested.widens };

@@ -1,5 +1,5 @@
 -- The pieces of tables and keys, version by version.
-use Rattle.std.specs.Prelude.{ℕ, zero, suc, ◌≡◌, ◌<◌, ◌≤◌, ◌+◌, ◌==◌, ◌&&◌, min, max, Bool, true, false, if◌then◌else◌, List, [], ◌∷◌, Option, Some, None, option_map, unwrap_or}
+use Rattle.std.specs.Prelude.{ℕ, zero, suc, ◌≡◌, ◌≤◌, ◌==◌, ◌&&◌, min, max, Bool, true, false, if◌then◌else◌, List, [], ◌∷◌, Option, Some, None, option_map, unwrap_or}
 use Rattle.std.specs.BTreeMap.{BTreeMap, is_at}
 use Rattle.std.specs.List.{AllByRecursion}
 use Rattle.std.specs.Map.{lookup}
@@ -9,6 +9,7 @@ use Rattle.std.specs.declared.alloc.Global.{Global}
 use Rattle.std.specs.declared.vec.Vec.{Vec}
 use Rattle.wm_base.specs.Key.{key_order}
 use Rattle.wm_base.specs.declared.value.Value.{Value}
+use Rattle.wm_chunks.specs.Rising.{RiseFrom}
 use Rattle.wm_graph.specs.Parts.{as_piece}
 use Rattle.wm_ids.specs.Ids.{keyed_at, placed, without}
 use Rattle.wm_ids.specs.declared.versioned.Versioned.{Versioned}
@@ -27,10 +28,13 @@ abbrev pub ids_under : List Versioned → ℕ → List ℕ
 ids_under [] version = []
 ids_under (e ∷ es) version = if e.version == version then e.ids else ids_under es version
 
+-- the version that an entry is of
+abbrev pub entry_version : Versioned → ℕ
+entry_version e = e.version
+
 -- the versions rise, from a bound on
 abbrev pub VersionsFrom : ℕ → List Versioned → Type 0
-VersionsFrom bound [] = Unit {0}
-VersionsFrom bound (e ∷ es) = (bound ≤ e.version) × VersionsFrom (e.version + 1) es
+VersionsFrom bound es = RiseFrom entry_version bound es
 
 -- the versions rise, the newest last
 abbrev pub VersionsRise : List Versioned → Type 0
@@ -78,19 +82,6 @@ AreSpanned ss (e ∷ es) = AllByRecursion (IsSpanned ss e.from e.till) e.ids × 
 -- they do at each key
 abbrev pub AllSpanned : List Stored → List (ℕ × Versions) → Type 0
 AllSpanned ss tables = (t : ℕ) (k : List Value) → AreSpanned ss (versions_on tables t k)
-
--- a version stands at a place, behind older ones
-abbrev pub StandsAt : ℕ → List Versioned → ℕ → Type 0
-StandsAt version [] i = ⊥
-StandsAt version (e ∷ es) zero = e.version ≡ version
-StandsAt version (e ∷ es) (suc i) = (e.version < version) × StandsAt version es i
-
--- it may be put at a place, behind older ones and before newer ones
-abbrev pub FitsAt : ℕ → List Versioned → ℕ → Type 0
-FitsAt version [] zero = Unit {0}
-FitsAt version [] (suc i) = ⊥
-FitsAt version (e ∷ es) zero = version < e.version
-FitsAt version (e ∷ es) (suc i) = (e.version < version) × FitsAt version es i
 
 -- a period lies in that which another has with the cells of a piece
 abbrev pub IsWithin : PieceRecord → ℕ → ℕ → Versioned → Type 0

@@ -7,7 +7,8 @@ ghost use Rattle.std.specs.Ordering.{is_eq, nat_cmp};
 ghost use Rattle.wm_base.specs.Key.{key_order};
 ghost use Rattle.wm_base.specs.declared.value.Value.{Value};
 ghost use Rattle.wm_ids.specs.Ids.{placed, without};
-ghost use Rattle.wm_ids.specs.Versioned.{AreNested, ChangedOn, ChangedWhere, FitsAt, HasLess, HasMore, IsWithin, StandsAt, VersionsRise, Widens, ids_under, versions_in, versions_on, widened, widened_from};
+ghost use Rattle.wm_chunks.specs.Rising.{FitsAt, StandsAt};
+ghost use Rattle.wm_ids.specs.Versioned.{AreNested, ChangedOn, ChangedWhere, HasLess, HasMore, IsWithin, VersionsRise, Widens, entry_version, ids_under, versions_in, versions_on, widened, widened_from};
 ghost use Rattle.wm_ids.specs.declared.versioned.Versioned.{Versioned};
 
 use crate::id_list::IdList;
@@ -55,9 +56,9 @@ pub fn versions_of_key<'a>(tables: &'a PieceIds, table: u16, key: &Key) -> &'a [
 /// Where a version stands among those that rise, or else where it may be put, by halving.
 fn search_version(versions: &[Versioned], version: u64) -> Result<usize, usize>
     requires { VersionsRise versions.now }
-    ensures found { IfOk result (λ place. StandsAt version versions.now place) }
+    ensures found { IfOk result (λ place. StandsAt entry_version version versions.now place) }
     ensures within { IfOk result (λ place. place < length versions.now) }
-    ensures fits { IfErr result (λ place. FitsAt version versions.now place) }
+    ensures fits { IfErr result (λ place. FitsAt entry_version version versions.now place) }
     ensures between { IfErr result (λ place. place ≤ length versions.now) }
 {
     versions.binary_search_by(|one| one.version.cmp(&version))
@@ -66,9 +67,9 @@ fn search_version(versions: &[Versioned], version: u64) -> Result<usize, usize>
 /// Where a version stands among those that rise, or else where it may be put. Most are the newest, or newer.
 fn find_version(versions: &[Versioned], version: u64) -> Result<usize, usize>
     requires { VersionsRise versions.now }
-    ensures found { IfOk result (λ place. StandsAt version versions.now place) }
+    ensures found { IfOk result (λ place. StandsAt entry_version version versions.now place) }
     ensures within { IfOk result (λ place. place < length versions.now) }
-    ensures fits { IfErr result (λ place. FitsAt version versions.now place) }
+    ensures fits { IfErr result (λ place. FitsAt entry_version version versions.now place) }
     ensures between { IfErr result (λ place. place ≤ length versions.now) }
 {
     if versions.is_empty() {

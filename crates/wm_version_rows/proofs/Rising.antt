@@ -3,9 +3,9 @@ use Rattle.std.proofs.Common.{◌≡◌, ℕ, zero, suc, ◌+◌, ◌<◌, ◌�
 use Rattle.std.specs.List.{AllByRecursion, filter}
 use Rattle.std.specs.List.Sorted.{IsNonDecreasingBy, IsPartitionPoint}
 use Rattle.wm_version_rows.specs.Laying.{up_to}
-use Rattle.wm_ids.specs.Versioned.{AreSpanned, Encloses, IsSpanned, VersionsFrom, Widens}
+use Rattle.wm_ids.specs.Versioned.{AreSpanned, Encloses, IsSpanned, VersionsFrom, Widens, entry_version}
 use Rattle.wm_ids.specs.declared.versioned.Versioned.{Versioned}
-use Rattle.wm_ids.proofs.Placing.{from_at, from_less}
+use Rattle.wm_chunks.proofs.Rising.{from_at, from_less}
 use Rattle.wm_spec.specs.declared.record.stored.Stored.{Stored}
 
 -- ---- the last, and those before
@@ -52,7 +52,7 @@ up_to_rises b top (e ∷ es) up = by_test (nat_le e.version top) (up_to_rises (e
   where
     by_test : (t : Bool) → VersionsFrom (e.version + 1) (up_to top es) → VersionsFrom b (cond t (e ∷ up_to top es) (up_to top es))
     by_test true rest = (up.0, rest)
-    by_test false rest = let first = up.0 in from_less b (e.version + 1) (up_to top es) (omega (arith, first)) rest
+    by_test false rest = let first = up.0 in from_less entry_version b (e.version + 1) (up_to top es) (omega (arith, first)) rest
 
 pub up_to_widens : (top : ℕ) (es : List Versioned) → Widens es → Widens (up_to top es)
 up_to_widens top [] wide = tt
@@ -76,7 +76,7 @@ up_to_spanned ss top (e ∷ es) all = by_test (nat_le e.version top) (up_to_span
 pub in_order : (b : ℕ) (es : List Versioned) → VersionsFrom b es → IsNonDecreasingBy (λ (e : Versioned). e.version) es
 in_order b [] up i j d le within = absurd (omega (arith, within))
 in_order b (e ∷ es) up zero zero d le within = omega arith
-in_order b (e ∷ es) up zero (suc j) d le within = let more = from_at (e.version + 1) es j d up.1 (omega (arith, within)) in omega (arith, more)
+in_order b (e ∷ es) up zero (suc j) d le within = let more = from_at entry_version (e.version + 1) es j d up.1 (omega (arith, within)) in omega (arith, more)
 in_order b (e ∷ es) up (suc i) zero d le within = absurd (omega (arith, le))
 in_order b (e ∷ es) up (suc i) (suc j) d le within = in_order (e.version + 1) es up.1 i j d (omega (arith, le)) (omega (arith, within))
 
