@@ -1,5 +1,5 @@
 //! The records of a store, put under their ids with an index of them.
-ghost use Rattle.std.specs.Prelude.{◌≡◌, [], map, true, false, IsTrue, IfOk, IfErr, OnOk};
+ghost use Rattle.std.specs.Prelude.{◌≡◌, [], map, false, IsTrue, IfOk, IfErr, OnOk};
 ghost use Rattle.std.specs.List.Sorted.{IsNonDecreasingBy, IsPermutation};
 ghost use Rattle.wm_index.specs.Indexed.{IsIndexed, listed};
 ghost use Rattle.wm_graph.specs.Parts.{parts_of};
