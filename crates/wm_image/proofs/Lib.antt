@@ -1,5 +1,6 @@
 pub mod Lists
 pub mod Loading
+pub mod Gaining
 pub mod Sorting
 pub mod Keyed
 pub mod Latest

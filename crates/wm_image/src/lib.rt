@@ -3,6 +3,7 @@
 
 pub mod children;
 pub mod image;
+mod indexing;
 pub mod load;
 pub mod shown;
 

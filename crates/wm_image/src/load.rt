@@ -1,22 +1,24 @@
 //! The records of a store, put under their ids with an index of them.
-ghost use Rattle.std.specs.Prelude.{◌≡◌, [], map, false, IsTrue, IfOk, IfErr, OnOk};
+ghost use Rattle.std.specs.Prelude.{◌≡◌, [], map, false, None, Some, IsTrue, IfOk, IfErr, OnOk};
 ghost use Rattle.std.specs.List.Sorted.{IsNonDecreasingBy, IsPermutation};
+ghost use Rattle.wm_chunks.specs.Numbers.{AreOrdered};
 ghost use Rattle.wm_index.specs.Indexed.{IsIndexed, listed};
 ghost use Rattle.wm_graph.specs.Parts.{parts_of};
 ghost use Rattle.wm_records.specs.Cataloged.{IsCatalog};
 ghost use Rattle.wm_records.specs.Hops.{AreHops};
 ghost use Rattle.wm_image.specs.declared.load.ImageFault.TheVariants.{Memory as OutOfMemory};
-ghost use Rattle.wm_spec.specs.Records.{AreRecords, ids_differ};
+ghost use Rattle.wm_spec.specs.Records.{AreRecords, ids_differ, record_at};
 ghost use Rattle.wm_spec.specs.declared.record.stored.Stored.{Stored as OneStored};
-ghost use Rattle.wm_state.specs.ById.{Ascend, by_id};
+ghost use Rattle.wm_state.specs.ById.{Ascend, by_id, set_at};
 
+use crate::indexing::add_all;
 use std::alloc::Global;
 use wm_base::Memory;
 use wm_catalog::Catalog;
 use wm_index::index::Index;
+use wm_index::kinds::version_of;
 use wm_index::records::Kept;
 use wm_records::hops::Hops;
-use wm_records::records::change_one;
 use wm_records::tables::catalog_of;
 use wm_spec::record::{Records, Stored};
 
@@ -72,8 +74,21 @@ pub fn sorted(records: Records) -> Result<Records, ImageFault>
     Ok(ordered)
 }
 
+/// Puts a record under its id, where none is, with the hop of its version.
+fn put_one(kept: &mut Kept, hops: &mut Hops, one: Stored) -> Result<(), Memory>
+    requires { AreOrdered kept.old.entries }
+    ensures listed { OnOk result (listed kept.new.entries ≡ set_at one.id (Some one.record) (listed kept.old.entries)) }
+    ensures ordered { OnOk result (AreOrdered kept.new.entries) }
+    ensures hops { OnOk result (record_at (listed kept.old.entries) one.id ≡ None → AreHops (parts_of (listed kept.old.entries)).versions hops.old → AreHops (parts_of (listed kept.new.entries)).versions hops.new) }
+{
+    hops.follow(None, version_of(Some(&one.record)))?;
+    let before = kept.insert(one.id, one.record)?;
+    drop(before);
+    Ok(())
+}
+
 /// Puts records that stand by id under their ids, with an index of them and the hops of their versions: from the first
-/// on, so that each comes last among those in the index.
+/// on, so that each comes last among those that are there.
 fn put_all(
     alloc: Global,
     kept: &mut Kept,
@@ -89,8 +104,9 @@ fn put_all(
     ensures indexed { OnOk result (IsIndexed kept.new index.new) }
     ensures hops { OnOk result (AreHops (parts_of (listed kept.new.entries)).versions hops.new) }
 {
+    add_all(alloc, index, records.as_slice())?;
     for one in records.into_vec() {
-        change_one(alloc, kept, index, hops, one.id, Some(one.record))?;
+        put_one(kept, hops, one)?;
     }
     Ok(())
 }

@@ -1,5 +1,5 @@
 -- The ids of records that stand by id: of those that pass a test, after a change, and in order.
-use Rattle.std.proofs.Common.{◌≡◌, ◌≢◌, ℕ, ◌<◌, ◌≤◌, Bool, true, false, cond, List, [], ◌∷◌, Option, Some, None, refl, sym, ap, ◌∙◌, subst, ◌⊎◌, inl, inr, arith}
+use Rattle.std.proofs.Common.{◌≡◌, ◌≢◌, ℕ, ◌<◌, ◌≤◌, Bool, true, false, cond, List, [], ◌∷◌, ◌++◌, Option, Some, None, refl, sym, ap, ◌∙◌, subst, ◌⊎◌, inl, inr, arith}
 use Rattle.std.proofs.lemmas.Bool.{cases_eq, cases_lt, eq-eqb, ne_eqb, lt-ltb, le-ltb}
 use Rattle.std.specs.List.{AllByRecursion}
 use Rattle.std.specs.List.Sorted.{IsStrictlySortedBy}
@@ -115,6 +115,38 @@ ids_with-set p id becomes (s ∷ ss) sorted = by_place (cases_eq s.id id) (cases
     by_place (inl same) order rest = rw (eq-eqb _ _ same) (here same)
     by_place (inr away) (inl lt) rest = rw (ne_eqb _ _ away, lt-ltb _ _ lt) (before lt)
     by_place (inr away) (inr more) rest = rw (ne_eqb _ _ away, le-ltb _ _ more) (behind (omega (arith, more, away)) away rest)
+
+-- ---- a record between others
+
+-- the id of a record behind others is above theirs
+pub above_between : (id : ℕ) (xs : List Stored) (s : Stored) (ys : List Stored) → AllAbove id (xs ++ s ∷ ys) → id < s.id
+above_between id [] s ys above = above.0
+above_between id (x ∷ xs) s ys above = above_between id xs s ys above.1
+
+-- among those before it none has its id
+pub record_at-before : (xs : List Stored) (s : Stored) (ys : List Stored) → Ascend (xs ++ s ∷ ys) → record_at xs s.id ≡ None
+record_at-before [] s ys sorted = record_at-none s.id
+record_at-before (x ∷ xs) s ys sorted =
+    record_at-away x xs s.id (λ e. absurd (let lt = above_between x.id xs s ys sorted.0 in omega arith)) ∙ record_at-before xs s ys sorted.1
+
+-- its id is found among them all
+pub record_at-between : (xs : List Stored) (s : Stored) (ys : List Stored) → Ascend (xs ++ s ∷ ys) → record_at (xs ++ s ∷ ys) s.id ≡ Some s.record
+record_at-between [] s ys sorted = record_at-here s ys s.id refl
+record_at-between (x ∷ xs) s ys sorted =
+    record_at-away x (xs ++ s ∷ ys) s.id (λ e. absurd (let lt = above_between x.id xs s ys sorted.0 in omega arith)) ∙ record_at-between xs s ys sorted.1
+
+-- the ids that pass a test have its own more, where it passes
+pub ids_with-between : (p : Record → Bool) (xs : List Stored) (s : Stored) (ys : List Stored) → Ascend (xs ++ s ∷ ys)
+    → ids_with p (xs ++ s ∷ ys) ≡ cond (p s.record) (placed s.id (ids_with p (xs ++ ys))) (ids_with p (xs ++ ys))
+ids_with-between p [] s ys sorted = ap (λ ids. cond (p s.record) ids (ids_with p ys)) (sym (placed-above p s.id ys sorted.0))
+ids_with-between p (x ∷ xs) s ys sorted = by_tests (p x.record) (p s.record) (ids_with-between p xs s ys sorted.1)
+  where
+    by_tests : (a b : Bool) → ids_with p (xs ++ s ∷ ys) ≡ cond b (placed s.id (ids_with p (xs ++ ys))) (ids_with p (xs ++ ys))
+        → cond a (x.id ∷ ids_with p (xs ++ s ∷ ys)) (ids_with p (xs ++ s ∷ ys))
+            ≡ cond b (placed s.id (cond a (x.id ∷ ids_with p (xs ++ ys)) (ids_with p (xs ++ ys)))) (cond a (x.id ∷ ids_with p (xs ++ ys)) (ids_with p (xs ++ ys)))
+    by_tests true true rest = ap (λ ids. x.id ∷ ids) rest ∙ sym (placed-later s.id x.id (ids_with p (xs ++ ys)) (above_between x.id xs s ys sorted.0))
+    by_tests true false rest = ap (λ ids. x.id ∷ ids) rest
+    by_tests false b rest = rest
 
 -- ---- in order
 

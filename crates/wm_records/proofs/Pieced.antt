@@ -55,7 +55,7 @@ loses_spanned ss old next id (Some (records.Piece x)) less all = λ t k. by_test
     by_test false es fs spans same = subst (AreSpanned ss) (sym same) spans
 loses_spanned ss old next id (Some _) same all = subst (AllSpanned ss) (sym same) all
 
-gains_spanned : (ss : List Stored) (old next : List (ℕ × Versions)) (id : ℕ) (o : Option Record) → record_at ss id ≡ o → GainsAny old next id o → AllSpanned ss old → AllSpanned ss next
+pub gains_spanned : (ss : List Stored) (old next : List (ℕ × Versions)) (id : ℕ) (o : Option Record) → record_at ss id ≡ o → GainsAny old next id o → AllSpanned ss old → AllSpanned ss next
 gains_spanned ss old next id None at same all = subst (AllSpanned ss) (sym same) all
 gains_spanned ss old next id (Some (records.Piece x)) at more all = λ t k. by_test ((x.cells.table == t) && is_eq (key_order x.cells.key k)) (versions_on old t k) (versions_on next t k) (all t k) (more t k)
   where

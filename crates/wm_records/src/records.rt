@@ -63,7 +63,7 @@ fn reindex(
 }
 
 /// Changes what stands under an id, and the index and the hops with it, and tells whether a table was or is there.
-pub fn change_one(
+fn change_one(
     alloc: Global,
     kept: &mut Kept,
     index: &mut Index,
