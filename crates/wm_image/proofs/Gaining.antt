@@ -77,7 +77,7 @@ none_is xs s none = others-push xs s ∙ ap (λ b. others xs ++ cond (not b) (s 
 -- ---- from the first on
 
 -- the records up to a place, the one that stands there, and those behind it
-pub split_at : (ss : List Stored) (i : ℕ) (s : Stored) → i < length ss → s ≡ get_or ss i s → ss ≡ take i ss ++ s ∷ drop (i + 1) ss
+split_at : (ss : List Stored) (i : ℕ) (s : Stored) → i < length ss → s ≡ get_or ss i s → ss ≡ take i ss ++ s ∷ drop (i + 1) ss
 split_at ss i s within is = sym (take-append-drop i ss) ∙ ap (λ l. take i ss ++ l) (drop_more ss i s within ∙ ap (λ t. t ∷ drop (i + 1) ss) (sym is))
 
 taken_more : (ss : List Stored) (i : ℕ) (s : Stored) → i < length ss → s ≡ get_or ss i s → take (i + 1) ss ≡ take i ss ++ s ∷ []
@@ -86,17 +86,23 @@ taken_more ss i s within is = take_more ss i s within ∙ ap (λ t. take i ss ++
 pub others_ascend : (ss : List Stored) (i : ℕ) (x : Index) → Ascend ss → IsIndexOf ss (others (take i ss)) x → IdsAscend x
 others_ascend ss i x sorted is =
     ids_ascend ss (others (take i ss)) x
-    (subst Ascend (append-nil (others (take i ss))) (Ascend-others (take i ss) [] (subst Ascend (sym (append-nil (take i ss))) (Ascend-front (take i ss) (drop i ss) (subst Ascend (sym (take-append-drop i ss)) sorted))))) is
+    (Ascend-front (others (take i ss)) (drop i ss) (Ascend-others (take i ss) (drop i ss) (subst Ascend (sym (take-append-drop i ss)) sorted))) is
 
 pub others_more : (ss : List Stored) (i : ℕ) (s : Stored) (old next : Index) → Ascend ss → i < length ss → s ≡ get_or ss i s → is_piece_or_touch s.record ≡ false
     → IsIndexOf ss (others (take i ss)) old → Adds old next s.id s.record → Gains old.pieces.entries next.pieces.entries s.id s.record → IsIndexOf ss (others (take (i + 1) ss)) next
 others_more ss i s old next sorted within here other is adds gains =
-    subst (λ l. IsIndexOf ss l next) (sym (ap others (taken_more ss i s within here) ∙ other_is (take i ss) s other))
-    (gained ss (take i ss) (drop (i + 1) ss) s old next sorted split (others (take i ss)) []
-    (Ascend-front (others (take i ss) ++ s ∷ []) (drop (i + 1) ss) (subst Ascend (sym (append_assoc (others (take i ss)) (s ∷ []) (drop (i + 1) ss))) (Ascend-others (take i ss) (s ∷ drop (i + 1) ss) (subst Ascend split sorted))))
-    (subst (λ l. IsIndexOf ss l old) (sym (append-nil (others (take i ss)))) is) adds gains)
+    subst (λ l. IsIndexOf ss l next) (sym (ap others (taken_more ss i s within here) ∙ other_is front s other))
+    (gained ss front back s old next sorted split (others front) []
+    (Ascend-front (others front ++ s ∷ []) back (subst Ascend (sym (append_assoc (others front) (s ∷ []) back)) (Ascend-others front (s ∷ back) (subst Ascend split sorted))))
+    (subst (λ l. IsIndexOf ss l old) (sym (append-nil (others front))) is) adds gains)
   where
-    split : ss ≡ take i ss ++ s ∷ drop (i + 1) ss
+    front : List Stored
+    front = take i ss
+
+    back : List Stored
+    back = drop (i + 1) ss
+
+    split : ss ≡ front ++ s ∷ back
     split = split_at ss i s within here
 
 pub others_still : (ss : List Stored) (i : ℕ) (s : Stored) (x : Index) → i < length ss → s ≡ get_or ss i s → is_piece_or_touch s.record ≡ true
@@ -114,7 +120,7 @@ front_of : (ss ys : List Stored) (n : ℕ) → ys ≡ take n (reverse ss) → (f
 front_of ss ys n are = (
   reverse (drop n (reverse ss)),
   sym (reverse-reverse ss) ∙ ap reverse (sym (take-append-drop n (reverse ss))) ∙ reverse-append (take n (reverse ss)) (drop n (reverse ss))
-  ∙ ap (λ l. reverse (drop n (reverse ss)) ++ reverse l) (sym are),
+      ∙ ap (λ l. reverse (drop n (reverse ss)) ++ reverse l) (sym are),
 )
 
 pub from_ascend : (ss ys : List Stored) (n : ℕ) (x : Index) → Ascend ss → ys ≡ take n (reverse ss) → HasFrom ss (reverse ys) x → IdsAscend x

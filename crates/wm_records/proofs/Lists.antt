@@ -143,7 +143,7 @@ ids_with-between p (x ∷ xs) s ys sorted = by_tests (p x.record) (p s.record) (
   where
     by_tests : (a b : Bool) → ids_with p (xs ++ s ∷ ys) ≡ cond b (placed s.id (ids_with p (xs ++ ys))) (ids_with p (xs ++ ys))
         → cond a (x.id ∷ ids_with p (xs ++ s ∷ ys)) (ids_with p (xs ++ s ∷ ys))
-            ≡ cond b (placed s.id (cond a (x.id ∷ ids_with p (xs ++ ys)) (ids_with p (xs ++ ys)))) (cond a (x.id ∷ ids_with p (xs ++ ys)) (ids_with p (xs ++ ys)))
+        ≡ cond b (placed s.id (cond a (x.id ∷ ids_with p (xs ++ ys)) (ids_with p (xs ++ ys)))) (cond a (x.id ∷ ids_with p (xs ++ ys)) (ids_with p (xs ++ ys)))
     by_tests true true rest = ap (λ ids. x.id ∷ ids) rest ∙ sym (placed-later s.id x.id (ids_with p (xs ++ ys)) (above_between x.id xs s ys sorted.0))
     by_tests true false rest = ap (λ ids. x.id ∷ ids) rest
     by_tests false b rest = rest

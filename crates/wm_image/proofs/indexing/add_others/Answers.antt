@@ -16,8 +16,8 @@ loop-one-preserved c =
       | then-not-is_piece_or_touch+in_ok-add_record w ↦ subst (IsIndexOf ss (others (take (place + 1) ss))) (sym w.index-is) (
           others_more ss place one c.loop-one.index w.add_record.new.self c.requires.ascend c.loop-one-test.true c.one-item.is (sym c.is_piece_or_touch.ensures ∙ w.if-not-is_piece_or_touch.true)
           c.loop-one.invariant w.in_ok-add_record.ensures.ids w.in_ok-add_record.ensures.pieces
-        )
+          )
       | else-not-is_piece_or_touch w ↦ subst (IsIndexOf ss (others (take (place + 1) ss))) (sym w.index-is) (
           others_still ss place one c.loop-one.index c.loop-one-test.true c.one-item.is (sym c.is_piece_or_touch.ensures ∙ w.if-not-is_piece_or_touch.false) c.loop-one.invariant
-        )
+          )
     ]
