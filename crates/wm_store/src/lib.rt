@@ -2,6 +2,7 @@
 #![tactic(auto)]
 
 mod blobs;
+mod changes;
 mod fresh;
 mod over;
 mod records;

@@ -1,5 +1,5 @@
 //! The heap over the pages of a station.
-ghost use Rattle.std.specs.Prelude.{◌≡◌, ℕ, ◌+◌, ◌*◌, ◌/◌, ◌<◌, ◌≤◌, true, false, not, ◌==◌, [], filter, length, is_some, Ok, IfOk, IfErr, OnOk, IsErrOf};
+ghost use Rattle.std.specs.Prelude.{◌≡◌, ◌+◌, ◌*◌, ◌/◌, ◌<◌, ◌≤◌, true, false, [], length, is_some, Ok, IfOk, IfErr, OnOk, IsErrOf};
 ghost use Rattle.std.specs.List.{list_any};
 ghost use Rattle.wm_base.specs.declared.fault.OpenFault.TheVariants as opening;
 ghost use Rattle.wm_base.specs.declared.fault.StoreFault.TheVariants as storing;
@@ -7,7 +7,7 @@ ghost use Rattle.wm_page.specs.Batch.{entries};
 ghost use Rattle.wm_page.specs.Cause.{OpenCause, StoreCause};
 ghost use Rattle.wm_station.specs.History.{now};
 ghost use Rattle.wm_journal.specs.Disk.{page};
-ghost use Rattle.wm_heap.specs.Blobs.{AreBlobs, AreSmall, AreSomeOf, OverBytes, alters, change_something, moves, slots_put};
+ghost use Rattle.wm_heap.specs.Blobs.{AreBlobs, AreSmall, change_something, moves, slots_put};
 ghost use Rattle.wm_heap.specs.Content.{content, bytes_at, slots_in};
 ghost use Rattle.wm_heap.specs.Places.{place_of, page_count, IsHeapOf};
 ghost use Rattle.wm_heap.specs.Plan.{IsPlan, IsChanged, laid};
@@ -16,13 +16,14 @@ ghost use Rattle.wm_store.specs.Answers.{FindsIn};
 ghost use Rattle.wm_store.specs.Few.{AddsLate, PutsFew};
 ghost use Rattle.wm_store.specs.Opened.{pages_opened};
 
+use crate::changes::change_pages;
 use crate::records::load_pages;
 use crate::station_pages::{StationPages, whole_pages};
 use std::alloc::Global;
 use wm_base::{Bytes, OpenFault, StoreFault};
 use wm_heap::{Blobs, Heap};
 use wm_journal::{open_fault, store_fault};
-use wm_page::{PAGE_SIZE, PageBatch};
+use wm_page::PageBatch;
 use wm_spec::record::Records;
 use wm_station::Station;
 
@@ -48,92 +49,13 @@ pub fn load_over<P: Station>(
         Ok(whole) => whole,
         Err(failed) => return Err(open_fault(failed)),
     };
-    let mut pages = StationPages {
-        station,
-        count,
-        whole,
-    };
+    let mut pages = StationPages::new(station, count, whole);
     load_pages(alloc, &mut pages)
-}
-
-/// The pages that change the heap of a store with so many pages, whose station is at rest. The length of its file is
-/// not asked: a page that is not there is a fault of the disk.
-#[tactic(auto, using(crate::proofs::Pasts::past_injective))]
-pub fn plan_over<P: Station>(
-    alloc: Global,
-    station: &mut P,
-    heap: &mut Heap,
-    count: u64,
-    blobs: &Blobs,
-) -> Result<PageBatch, StoreFault>
-    requires once { AreBlobs blobs.now }
-    requires small { AreSmall blobs.now }
-    requires heap { P.tells → IsHeapOf heap.old (page (now (P.history station.old))) count }
-    requires size { P.tells → count * 4096 ≤ length (now (P.history station.old)) }
-    ensures plan { IfOk result (λ b. IsPlan (page_count heap.old) (page_count heap.new) (entries b.pages)) }
-    ensures nothing { IfOk result (λ b. (length b.pages == 0) ≡ not (change_something (λ id. is_some (place_of heap.old id)) blobs.now)) }
-    ensures few { IfOk result (λ b. length b.pages ≤ 2 * length blobs.now + 2) }
-    ensures late { P.tells → KnowsRoom heap.old.room (slots_in (page (now (P.history station.old)))) (page_count heap.old) → OnOk result (AddsLate (page_count heap.old) (page_count heap.new) (page (now (P.history station.old))) (slots_put blobs.now)) }
-    ensures changed { P.tells → IfOk result (λ b. IsChanged heap.new blobs.now (entries b.pages) (page (now (P.history station.old))) count) }
-    ensures knows { P.tells → KnowsRoom heap.old.room (slots_in (page (now (P.history station.old)))) (page_count heap.old) → IfOk result (λ b. KnowsRoom heap.new.room (slots_in (laid (entries b.pages) (page (now (P.history station.old))))) (page_count heap.new)) }
-    ensures told { P.tells → P.history station.new ≡ P.history station.old }
-    ensures cause { StoreCause (P.disk_faults station.old) (P.disk_faults station.new) result }
-    ensures sound { P.tells → IsErrOf result storing.Changed → ⊥ }
-    ensures say_quiet { P.say_faults station.new ≡ P.say_faults station.old }
-{
-    // No file is so long that this many pages lie in it.
-    if count > u64::MAX / PAGE_SIZE as u64 {
-        return Err(StoreFault::Memory);
-    }
-    let mut pages = StationPages {
-        station,
-        count,
-        whole: count,
-    };
-    let batch = heap.plan(alloc, &mut pages, blobs)?;
-    Ok(batch)
-}
-
-/// Those changes, in order, that say something else than stands under their ids in a store with so many pages, whose
-/// station is at rest.
-#[tactic(auto, using(crate::proofs::Pasts::past_injective))]
-pub fn altering_over<P: Station>(
-    alloc: Global,
-    station: &mut P,
-    heap: &Heap,
-    count: u64,
-    blobs: Blobs,
-) -> Result<Blobs, StoreFault>
-    requires heap { P.tells → IsHeapOf heap.now (page (now (P.history station.old))) count }
-    requires size { P.tells → count * 4096 ≤ length (now (P.history station.old)) }
-    ensures some { IfOk result (λ left. AreSomeOf left blobs) }
-    ensures moved { IfOk result (λ left. filter (moves (λ id. is_some (place_of heap.now id))) left ≡ filter (moves (λ id. is_some (place_of heap.now id))) blobs) }
-    ensures altering { P.tells → IfOk result (λ left. left ≡ filter (alters (bytes_at (content (page (now (P.history station.old))) count))) blobs) }
-    ensures read { P.tells → OnOk result (OverBytes (bytes_at (content (page (now (P.history station.old))) count)) blobs) }
-    ensures told { P.tells → P.history station.new ≡ P.history station.old }
-    ensures cause { StoreCause (P.disk_faults station.old) (P.disk_faults station.new) result }
-    ensures sound { P.tells → IsErrOf result storing.Changed → ⊥ }
-    ensures say_quiet { P.say_faults station.new ≡ P.say_faults station.old }
-{
-    let whole = match whole_pages(station) {
-        Ok(whole) => whole,
-        Err(failed) => return Err(store_fault(failed)),
-    };
-    // Another writer cut the file.
-    if whole < count {
-        return Err(StoreFault::Changed);
-    }
-    let mut pages = StationPages {
-        station,
-        count,
-        whole,
-    };
-    let left = heap.altering(alloc, &mut pages, blobs)?;
-    Ok(left)
 }
 
 /// The pages of those changes that say something else than stands there. There are some where a record comes or goes,
 /// whatever the station tells.
+#[tactic(auto, using(crate::proofs::Pasts::past_injective))]
 pub fn change_over<P: Station>(
     alloc: Global,
     station: &mut P,
@@ -158,8 +80,16 @@ pub fn change_over<P: Station>(
     ensures sound { P.tells → IsErrOf result storing.Changed → ⊥ }
     ensures say_quiet { P.say_faults station.new ≡ P.say_faults station.old }
 {
-    let left = altering_over(alloc, station, heap, count, blobs)?;
-    plan_over(alloc, station, heap, count, &left)
+    let whole = match whole_pages(station) {
+        Ok(whole) => whole,
+        Err(failed) => return Err(store_fault(failed)),
+    };
+    // Another writer cut the file.
+    if whole < count {
+        return Err(StoreFault::Changed);
+    }
+    let mut pages = StationPages::new(station, count, whole);
+    change_pages(alloc, &mut pages, heap, blobs)
 }
 
 /// The bytes of a record of a store with so many pages, whose station is at rest.
@@ -184,11 +114,7 @@ pub fn get_over<P: Station>(
         Ok(whole) => whole,
         Err(failed) => return Err(store_fault(failed)),
     };
-    let mut pages = StationPages {
-        station,
-        count,
-        whole,
-    };
+    let mut pages = StationPages::new(station, count, whole);
     let bytes = heap.get(alloc, &mut pages, id)?;
     Ok(bytes)
 }

@@ -2,18 +2,44 @@
 ghost use Rattle.std.specs.Prelude.{◌≡◌, ◌*◌, ◌/◌, ◌^◌, ◌<◌, ◌≤◌, length, IfOk};
 ghost use Rattle.wm_station.specs.Cause.{DiskCause};
 ghost use Rattle.wm_station.specs.History.{now};
+ghost use Rattle.wm_journal.specs.Disk.{page};
 
 use wm_page::{PAGE_SIZE, Pages, PagesFailed};
 use wm_station::{DiskFailed, Station};
 
-/// Reads pages from their places.
+/// Reads pages from their places. The page that was read last is not read again.
 #[derive(Drop)]
 pub struct StationPages<'a, P: Station> {
-    pub station: &'a mut P,
-    pub count: u64,
-    pub whole: u64,
+    station: &'a mut P,
+    count: u64,
+    whole: u64,
+    /// The page that was read last. Where none was it is 0, and page 0 is always read.
+    last: u64,
+    /// The bytes of that page.
+    bytes: [u8; PAGE_SIZE],
     ghost small: { whole * 4096 < 2 ^ 64 },
     ghost fits: { P.tells → whole * 4096 ≤ length (now (P.history station.now)) },
+    ghost read: { P.tells → 0 < last → bytes ≡ page (now (P.history station.now)) last },
+}
+
+impl<'a, P: Station> StationPages<'a, P> {
+    /// The pages of a station, of which so many are in use, and so many lie whole in its file.
+    pub fn new(station: &'a mut P, count: u64, whole: u64) -> StationPages<'a, P>
+        requires small { whole * 4096 < 2 ^ 64 }
+        requires fits { P.tells → whole * 4096 ≤ length (now (P.history station.old)) }
+        ensures same_reference { result.station.ghost_name ≡ station.entry.ghost_name }
+        ensures station { result.station.now ≡ station.old }
+        ensures count { result.count ≡ count }
+        ensures whole { result.whole ≡ whole }
+    {
+        StationPages {
+            station,
+            count,
+            whole,
+            last: 0,
+            bytes: [0; PAGE_SIZE],
+        }
+    }
 }
 
 impl<'a, P: Station> Pages for StationPages<'a, P> {
@@ -37,8 +63,16 @@ impl<'a, P: Station> Pages for StationPages<'a, P> {
     ghost past = { λ s. past_of (P.history s.station.now) };
 
     fn page(&mut self, number: u64, into: &mut [u8]) -> Result<(), PagesFailed> {
+        if number > 0 && number == self.last {
+            into.copy_from_slice(&self.bytes);
+            return Ok(());
+        }
         match self.station.read(number * PAGE_SIZE as u64, into) {
-            Ok(()) => Ok(()),
+            Ok(()) => {
+                self.bytes.copy_from_slice(into);
+                self.last = number;
+                Ok(())
+            }
             Err(DiskFailed::Failed) => Err(PagesFailed::Failed),
             Err(DiskFailed::Memory) => Err(PagesFailed::Memory),
         }
