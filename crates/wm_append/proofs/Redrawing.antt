@@ -1,6 +1,6 @@
 -- What is drawn, one table and key after another.
-use Rattle.std.proofs.Common.{◌≡◌, ◌≢◌, ℕ, ◌==◌, Bool, true, false, cond, not, ◌&&◌, ◌||◌, if◌then◌else◌, List, [], ◌∷◌, ◌++◌, append_assoc, append-nil, Option, Some, None, is_some, refl, sym, ap, subst, ◌∙◌, ◌⊎◌, inl, inr, arith}
-use Rattle.std.proofs.lemmas.Bool.{cases_eq, eq-eqb, eqb-true, and_from, and_parts, not-true, true≢false}
+use Rattle.std.proofs.Common.{◌≡◌, ◌≢◌, ℕ, ◌==◌, Bool, true, false, not, ◌&&◌, ◌||◌, if◌then◌else◌, List, [], ◌∷◌, ◌++◌, append_assoc, append-nil, Option, Some, None, is_some, refl, sym, ap, subst, ◌∙◌, arith}
+use Rattle.std.proofs.lemmas.Bool.{eq-eqb, eqb-true, and_from, and_parts, not-true, true≢false}
 use Rattle.std.proofs.lemmas.Bool.Decides.{nat_tests}
 use Rattle.std.proofs.lemmas.Cmp.{nat_cmp_total, on_total, then_total}
 use Rattle.std.specs.Cmp.{IsTotalOrder}
@@ -31,7 +31,6 @@ use Rattle.wm_changes.proofs.Dropping.{told-with, differ-with, filter-with}
 use Rattle.wm_changes.proofs.DroppingAll.{differ-append, dropped-append, there-with, there_all}
 use Rattle.wm_index.proofs.Finding.{all_of, filter-kind}
 use Rattle.wm_image.proofs.Lists.{taken-with}
-use Rattle.wm_index.proofs.Lists.{record_at-here, record_at-away}
 use Rattle.wm_append.specs.Redraw.{IsRedrawn, IsAtKey, IsDraft, are_ascending, hand_cells, is_at_hand, is_left, is_of_version, is_touched, met, spot, spot_order, unmet}
 use Rattle.wm_append.specs.Views.{View, drawn_in, ids_of_key, keeps_in}
 use Rattle.wm_index.specs.Kinds.{kind_at}

@@ -1,4 +1,4 @@
-ghost use Rattle.std.specs.Prelude.{◌≡◌, List, IfOk, IfErr};
+ghost use Rattle.std.specs.Prelude.{◌≡◌, IfOk, IfErr};
 ghost use Rattle.wm_syntax.specs.Trees.{Mul};
 ghost use Rattle.wm_syntax.specs.Views.{expr_view};
 ghost use Rattle.wm_grammar.specs.Expressions.{signed};

@@ -1,5 +1,4 @@
 //! The error of a call that wants memory.
-ghost use Rattle.std.specs.Prelude.{◌≡◌};
 
 use std::alloc::{AllocError, AllocFailed};
 use thiserror::Error;

@@ -1,5 +1,5 @@
 //! Periods of time and the questions about two of them.
-ghost use Rattle.std.specs.Prelude.{◌≡◌, ℕ, ◌<◌, ◌≤◌, ◌↔◌, IsTrue, IsSome, IfSome};
+ghost use Rattle.std.specs.Prelude.{◌≡◌, ◌<◌, ◌≤◌, ◌↔◌, IsTrue, IsSome, IfSome};
 ghost use Rattle.wm_base.specs.Period.{Span, overlaps, contains, meets, equals, before, after, shared, always, span_order};
 ghost use Rattle.wm_base.specs.declared.instant.TheConstants.{END};
 

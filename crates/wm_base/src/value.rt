@@ -1,5 +1,5 @@
 //! One value of a row, a key or a condition.
-ghost use Rattle.std.specs.Prelude.{◌≡◌, ℕ, ◌↔◌, ◌+◌, ◌<◌, ◌^◌, length, IsTrue, IfOk};
+ghost use Rattle.std.specs.Prelude.{◌≡◌, ◌↔◌, ◌+◌, ◌<◌, IsTrue, IfOk};
 ghost use Rattle.wm_base.specs.Value.{same_type, compare_of, value_order, weight_of, type_place};
 
 use crate::instant::Instant;

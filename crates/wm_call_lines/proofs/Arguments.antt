@@ -1,5 +1,5 @@
 -- Arguments with commas, read by a loop.
-use Rattle.std.proofs.Common.{◌≡◌, ℕ, ◌<◌, Bool, true, List, [], ◌∷◌, ◌++◌, length, refl, sym, ap, subst, ◌∙◌, Option, Result, Ok}
+use Rattle.std.proofs.Common.{◌≡◌, ℕ, ◌<◌, true, List, [], ◌∷◌, ◌++◌, length, refl, sym, subst, Option, Result, Ok}
 use Rattle.wm_syntax.specs.declared.statement.Arg.{Arg}
 use Rattle.wm_syntax.specs.Trees.{Cond}
 use Rattle.wm_grammar.specs.declared.procedure.Procedure.{Procedure}

@@ -1,4 +1,4 @@
-ghost use Rattle.std.specs.Prelude.{◌≡◌, ◌≢◌, ◌<◌, ◌^◌, List, [], None, length};
+ghost use Rattle.std.specs.Prelude.{◌≡◌, ◌≢◌, ◌<◌, ◌^◌, [], None, length};
 ghost use Rattle.wm_syntax.specs.Views.{cond_view, filter_view, statement_view};
 ghost use Rattle.wm_grammar.specs.Calls.{first_some};
 ghost use Rattle.wm_grammar.specs.Sorts.{code_of};

@@ -1,5 +1,4 @@
-ghost use Rattle.std.specs.Prelude.{◌≡◌, List};
-ghost use Rattle.wm_syntax.specs.declared.statement.Arg.{Arg as OneArg};
+ghost use Rattle.std.specs.Prelude.{◌≡◌};
 ghost use Rattle.wm_grammar.specs.Calls.{parameters_of, at_place, is_text, is_some_same, is_description, placed_parameter, parameter_for, is_given, closes, is_closed, next_place, is_among, open_parameter};
 
 use wm_grammar::{Parameter, Procedure, is_same, parameter_of};

@@ -1,5 +1,5 @@
 -- What a call gives for a parameter.
-use Rattle.std.specs.Prelude.{ℕ, ◌+◌, Bool, false, ◌==◌, if◌then◌else◌, length, List, [], ◌∷◌, Option, Some, None}
+use Rattle.std.specs.Prelude.{ℕ, ◌+◌, Bool, false, if◌then◌else◌, length, List, [], ◌∷◌, Option, Some, None}
 use Rattle.wm_syntax.specs.declared.constant.Const.{Const}
 use Rattle.wm_syntax.specs.declared.constant.Const.TheVariants as consts
 use Rattle.wm_syntax.specs.declared.statement.ArgValue.{ArgValue}

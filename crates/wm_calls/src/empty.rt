@@ -1,4 +1,4 @@
-ghost use Rattle.std.specs.Prelude.{◌≡◌, List};
+ghost use Rattle.std.specs.Prelude.{◌≡◌};
 ghost use Rattle.std.specs.List.{list_any};
 ghost use Rattle.wm_syntax.specs.Views.{expr_view, exprs_view, cond_view, filter_view, item_view, projection_view, srcs_view, outs_view, sets_view, query_view, statement_view};
 ghost use Rattle.wm_spec.specs.Operands.{end_seconds};

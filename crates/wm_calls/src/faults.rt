@@ -1,4 +1,4 @@
-ghost use Rattle.std.specs.Prelude.{◌≡◌, List, length};
+ghost use Rattle.std.specs.Prelude.{◌≡◌, length};
 ghost use Rattle.std.specs.Option.{option_map};
 ghost use Rattle.wm_calls.specs.Takes.{parameter_name};
 ghost use Rattle.wm_calls.specs.Faults.{fits_parameter, misfit, misfit_from, missing, faulty_parameter, misfit_before, argument_fault};

@@ -1,4 +1,4 @@
-ghost use Rattle.std.specs.Prelude.{◌≡◌, List};
+ghost use Rattle.std.specs.Prelude.{◌≡◌};
 ghost use Rattle.std.specs.List.{list_any};
 ghost use Rattle.wm_syntax.specs.Views.{srcs_view, statement_view, line_view};
 ghost use Rattle.wm_grammar.specs.Calls.{procedure_of};

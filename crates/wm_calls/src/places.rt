@@ -1,5 +1,5 @@
-ghost use Rattle.std.specs.Prelude.{◌≡◌, List};
-ghost use Rattle.wm_grammar.specs.Calls.{is_text, is_some_same, is_among, placed_parameter, at_place};
+ghost use Rattle.std.specs.Prelude.{◌≡◌};
+ghost use Rattle.wm_grammar.specs.Calls.{is_text, is_some_same, is_among, placed_parameter};
 ghost use Rattle.wm_calls.specs.Places.{is_diff, parameters_in, parameter_at, valid_time_required, required_of};
 
 use wm_grammar::{Parameter, Procedure, is_same, parameter_of};

@@ -4,7 +4,6 @@ ghost use Rattle.std.specs.Prelude.{◌≡◌, nat_lt, true, IfOk};
 ghost use Rattle.std.specs.List.{list_all};
 ghost use Rattle.std.specs.Ordering.{nat_cmp, on, then_cmp};
 ghost use Rattle.std.proofs.lemmas.Cmp.{nat_cmp_total, on_total, then_total};
-ghost use Rattle.wm_base.specs.Key.{key_order};
 ghost use Rattle.wm_base.specs.Orders.{key_order_total};
 ghost use Rattle.wm_cells.specs.Lookups.{referred};
 ghost use Rattle.wm_cells.specs.Order.{cells_order, beginning_order, neighbours_differ, overlap};

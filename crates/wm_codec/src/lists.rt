@@ -1,5 +1,4 @@
 //! Reading lists of values and of columns.
-ghost use Rattle.std.specs.Prelude.{◌≡◌};
 ghost use Rattle.wm_codec.specs.Format.{times, counted};
 ghost use Rattle.wm_codec.specs.Fields.{value};
 ghost use Rattle.wm_codec.specs.Spelling.{column};

@@ -1,5 +1,4 @@
 //! Reading numbers.
-ghost use Rattle.std.specs.Prelude.{◌≡◌};
 ghost use Rattle.std.specs.Int.{w16, w32, w64};
 ghost use Rattle.wm_codec.specs.Format.{byte_at};
 ghost use Rattle.wm_codec.specs.Fields.{number_at, i64};

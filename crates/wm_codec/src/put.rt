@@ -1,5 +1,5 @@
 //! Writing fields.
-ghost use Rattle.std.specs.Prelude.{◌≡◌, ◌∷◌, [], ◌++◌, ◌<◌, ◌^◌, length, OnOk};
+ghost use Rattle.std.specs.Prelude.{[], ◌<◌, ◌^◌, length, OnOk};
 ghost use Rattle.wm_codec.specs.Fields.{u16, u32, u64, i64, flag, kind, column_kind, freeze_mode, lock_mode, text, value, key, cell_range, key_columns, CanSpellValue, CanSpellKey, CanSpellKeyColumns};
 ghost use Rattle.wm_codec.specs.Writing.{Appends};
 

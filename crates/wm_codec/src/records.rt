@@ -1,5 +1,4 @@
 //! Reading the fields of each kind of record.
-ghost use Rattle.std.specs.Prelude.{◌≡◌};
 ghost use Rattle.wm_codec.specs.Format.{◌▸◌};
 ghost use Rattle.wm_codec.specs.Fields.{u32, u64, flag, freeze_mode, kind, text};
 ghost use Rattle.wm_codec.specs.Spelling.{counters, table, space, version, savepoint, row, piece, trace, lock, hist, turn};

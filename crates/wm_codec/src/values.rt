@@ -1,5 +1,4 @@
 //! Reading fields that are no numbers.
-ghost use Rattle.std.specs.Prelude.{◌≡◌};
 ghost use Rattle.wm_codec.specs.Fields.{cell_range, column_kind, flag, freeze_mode, key, key_columns, kind, lock_mode, text_at, value_at, value_of_type};
 ghost use Rattle.wm_codec.specs.Reading.{Gives};
 

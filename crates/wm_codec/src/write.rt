@@ -1,5 +1,5 @@
 //! Writing a record.
-ghost use Rattle.std.specs.Prelude.{◌≡◌, ◌++◌, ◌<◌, length, slice_index, OnOk, OnErr};
+ghost use Rattle.std.specs.Prelude.{◌≡◌, ◌++◌, ◌<◌, slice_index, OnOk, OnErr};
 ghost use Rattle.std.specs.List.{AllByRecursion};
 ghost use Rattle.wm_codec.specs.Fields.{value, CanSpellValue};
 ghost use Rattle.wm_codec.specs.Format.{counted};

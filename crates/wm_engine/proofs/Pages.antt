@@ -14,7 +14,7 @@ use Rattle.wm_store.specs.Stores.{ChangesOnly}
 use Rattle.wm_store.specs.declared.store.Store.{Store}
 use Rattle.wm_store.proofs.Distinct.{held_differ}
 use Rattle.wm_engine.specs.Pages.{ChangesPages}
-use Rattle.wm_engine.specs.Working.{HoldsSorted, KeepsOver}
+use Rattle.wm_engine.specs.Working.{KeepsOver}
 use Rattle.wm_engine.proofs.DraftsFit.{once_more, still}
 
 pages_wider : (store : Store) (most more : ℕ) (old new : List ℕ) → most ≤ more → ChangesPages store most old new → ChangesPages store more old new

@@ -1,7 +1,7 @@
 //! How values compare.
 ghost use Rattle.std.specs.Prelude.{◌≡◌};
 ghost use Rattle.wm_base.specs.Value.{compare_of};
-ghost use Rattle.wm_spec.specs.Conditions.{is_met as met, compared, test as tested, is_null as null, truth_if, one_of as any_of, between as lies_between, negated_if};
+ghost use Rattle.wm_spec.specs.Conditions.{is_met as met, test as tested, is_null as null, truth_if, one_of as any_of, between as lies_between, negated_if};
 ghost use Rattle.wm_expr.specs.Seen.{seen_value};
 
 use crate::operands::constant_seen;

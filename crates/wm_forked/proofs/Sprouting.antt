@@ -1,7 +1,6 @@
 -- A version more, above all others and with nothing in it: what is seen then.
 use Rattle.std.proofs.Common.{◌≡◌, ◌≢◌, ℕ, ◌<◌, true, List, [], ◌∷◌, None, is_some, refl, sym, ap, ◌∙◌, arith}
-use Rattle.std.proofs.lemmas.Bool.{eq-eqb, ne_eqb, and_parts}
-use Rattle.wm_base.proofs.Plain.{nat_lt-turned}
+use Rattle.std.proofs.lemmas.Bool.{eq-eqb, ne_eqb}
 use Rattle.wm_graph.specs.Parts.{Parts}
 use Rattle.wm_graph.specs.Rules.{keep_rules}
 use Rattle.wm_spec.specs.Lists.{Entry, Cell}
@@ -11,7 +10,6 @@ use Rattle.wm_state.specs.Standing.{stored_at, seen_at, own_at, newest_first, la
 use Rattle.wm_state.proofs.Above.{ends-beside, ends-under, ends-itself, pieces_lower}
 use Rattle.wm_state.proofs.Ending.{all_end}
 use Rattle.wm_state.proofs.Forking.{own-none, seen-beside, own-beside, seen-under, own-under}
-use Rattle.wm_state.proofs.Growing.{newest-push}
 
 pub record Sprouted (p q : Parts) (x : Node) : Type 0 where
   pub some : 0 < x.number

@@ -1,5 +1,5 @@
 -- The readers of calls are exact.
-use Rattle.std.proofs.Common.{◌≡◌, ℕ, Bool, true, false, List, [], ◌∷◌, Option, Some, None, refl}
+use Rattle.std.proofs.Common.{ℕ, Bool, true, false, List, [], ◌∷◌, Option, Some, None, refl}
 use Rattle.std.specs.Prelude.{pos}
 use Rattle.std.proofs.Math.IntN.{neg_ℤ}
 use Rattle.wm_base.specs.declared.instant.TheConstants.{END}
@@ -7,7 +7,7 @@ use Rattle.wm_syntax.specs.declared.constant.Const.TheVariants as consts
 use Rattle.wm_syntax.specs.declared.statement.ArgValue.{ArgValue}
 use Rattle.wm_syntax.specs.declared.statement.ArgValue.TheVariants as values
 use Rattle.wm_syntax.specs.declared.statement.Arg.{Arg}
-use Rattle.wm_syntax.specs.Trees.{Cond, Statement}
+use Rattle.wm_syntax.specs.Trees.{Cond}
 use Rattle.wm_syntax.specs.Trees as trees
 use Rattle.wm_grammar.specs.declared.procedure.Procedure.{Procedure}
 use Rattle.wm_grammar.specs.declared.procedure.Parameter.{Parameter}
@@ -16,7 +16,6 @@ use Rattle.wm_grammar.specs.Sorts as sorts
 use Rattle.wm_grammar.specs.Calls.{procedure_of, is_same, next_place, open_parameter, with_text, with_name, clause, gathered, one_more}
 use Rattle.wm_grammar.specs.CallForms.{constant_but_text, value_by, value_for, parameter_name, placed, arg, next_arg, arguments, parenthesis, arguments_of, package_call, call}
 use Rattle.wm_grammar.specs.CallReaders.{constant_but_text_at, value_by_at, value_for_at, parameter_name_at, placed_at, parameter_sorts, arg_at, next_arg_at, arguments_at, parenthesis_at, arguments_of_at, package_call_at, call_at}
-use Rattle.wm_grammar.proofs.Lists.{within}
 use Rattle.wm_grammar.proofs.Laws.{Shape, Exact, gives_exact, never_exact, one_for_exact, mark_exact, then_exact, or_exact, loosened}
 use Rattle.wm_grammar.proofs.Repeating.{item_shape, many_from_exact}
 use Rattle.wm_grammar.proofs.OperandLaws.{solid, constants, period_sorts, integer_exact, until_changed_exact, instant_exact, period_exact, constant_exact}

@@ -1,5 +1,5 @@
 -- The readers of expressions and conditions are exact.
-use Rattle.std.proofs.Common.{◌≡◌, ℕ, zero, suc, Bool, true, false, List, [], ◌∷◌, Option, Some, None, refl}
+use Rattle.std.proofs.Common.{ℕ, zero, suc, Bool, true, false, List, [], ◌∷◌, refl}
 use Rattle.std.specs.Prelude.{is_some}
 use Rattle.wm_syntax.specs.declared.operand.Operand.{Operand}
 use Rattle.wm_syntax.specs.declared.cond.Cmp.TheVariants as cmps

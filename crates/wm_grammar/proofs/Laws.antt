@@ -1,15 +1,14 @@
 -- What makes a reader exact: it finds the longest front that begins the form, and whether that is a whole one.
-use Rattle.std.proofs.Common.{◌≡◌, ℕ, zero, suc, Bool, true, false, cond, List, [], ◌∷◌, ◌++◌, length, refl, sym, ap, subst, ◌∙◌, append_assoc, inl, inr, arith, ◌≤◌, Option, Some, None, Result, Ok, Err}
+use Rattle.std.proofs.Common.{◌≡◌, ℕ, Bool, true, false, cond, List, [], ◌∷◌, ◌++◌, refl, sym, ap, subst, ◌∙◌, append_assoc, inl, inr, Option, Some, None, Result, Ok, Err}
 use Rattle.std.specs.Prelude.{◌⊎◌, ◌==◌, ◌||◌, ◌&&◌}
-use Rattle.std.proofs.lemmas.List.{append-nil, length-append}
-use Rattle.std.proofs.lemmas.Bool.{eqb-true, and_parts, eq-eqb, or_cases, or_left, or_right}
-use Rattle.std.proofs.Math.Nat.{le_refl}
+use Rattle.std.proofs.lemmas.List.{append-nil}
+use Rattle.std.proofs.lemmas.Bool.{eqb-true, eq-eqb, or_cases, or_left, or_right}
 use Rattle.wm_grammar.specs.Symbols.{Symbol, left_of, has, next_in}
 use Rattle.wm_grammar.specs.Forms as forms
-use Rattle.wm_grammar.specs.Forms.{Form, gives, one_for, never, ◌or◌, optional, Items, OneMore, many_from}
+use Rattle.wm_grammar.specs.Forms.{Form, gives, one_for, never, ◌or◌, optional}
 use Rattle.wm_grammar.specs.Reading as reading
-use Rattle.wm_grammar.specs.Reading.{Reader, bind, gives_at, never_at, taken, one_for_at, choose_at, optional_at, turns_at, many_from_at}
-use Rattle.wm_grammar.proofs.Lists.{Behind, Before, two_cuts, joins, within, apart, off, off_true, within_has, apart_has, has_left, has_right, joins_left, joins_right, apart_nil, within_itself}
+use Rattle.wm_grammar.specs.Reading.{Reader, bind, gives_at, never_at, taken, one_for_at, choose_at, optional_at}
+use Rattle.wm_grammar.proofs.Lists.{two_cuts, joins, within, apart, off, within_has, apart_has, has_left, has_right, joins_left, joins_right, apart_nil, within_itself}
 
 -- ---- what is told of a form by sorts alone
 

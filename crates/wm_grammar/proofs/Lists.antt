@@ -1,9 +1,8 @@
 -- Lists in two pieces, and lists of sorts.
-use Rattle.std.proofs.Common.{◌≡◌, ℕ, Bool, true, false, List, [], ◌∷◌, ◌++◌, refl, sym, ap, ◌∙◌, append_assoc, inl, inr}
+use Rattle.std.proofs.Common.{◌≡◌, ℕ, Bool, true, false, List, [], ◌∷◌, ◌++◌, refl, sym, inl, inr}
 use Rattle.std.specs.Prelude.{◌⊎◌, ◌==◌, ◌&&◌}
-use Rattle.std.proofs.lemmas.List.{append-nil}
 use Rattle.std.proofs.lemmas.Bool.{eqb-true, and_parts, eq-eqb, or_cases, or_left, or_right}
-use Rattle.wm_grammar.specs.Symbols.{Symbol, has, next_in}
+use Rattle.wm_grammar.specs.Symbols.{has}
 
 -- ---- two ways to cut one list
 

@@ -1,11 +1,11 @@
 -- Reading items one after the other, as a loop does.
 use Rattle.std.proofs.Common.{◌≡◌, ℕ, zero, suc, ◌≤◌, ◌<◌, Bool, true, false, cond, List, [], ◌∷◌, ◌++◌, length, refl, sym, ap, ◌∙◌, arith, append_assoc, Result, Ok, Err}
-use Rattle.std.proofs.lemmas.List.{append-nil, length-append}
+use Rattle.std.proofs.lemmas.List.{length-append}
 use Rattle.std.proofs.Math.Nat.{le_refl}
 use Rattle.wm_grammar.specs.Symbols.{Symbol, next_in}
 use Rattle.wm_grammar.specs.Forms.{Form}
-use Rattle.wm_grammar.specs.Reading.{Reader, bind, choose_at, turns_at}
-use Rattle.wm_grammar.proofs.Laws.{Shape, Orderly, Read, Found, Exact}
+use Rattle.wm_grammar.specs.Reading.{Reader, bind, turns_at}
+use Rattle.wm_grammar.proofs.Laws.{Shape, Found, Exact}
 
 -- a reader takes a symbol
 pub takes_one : {A : Type 0} {f : Form A} {r : Reader A} {h : Shape} → Exact f r h → h.empty ≡ false → (ts : List Symbol) (x : A) (rest : List Symbol) → r ts ≡ Ok (x, rest) → length rest < length ts

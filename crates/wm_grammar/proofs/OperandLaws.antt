@@ -1,5 +1,5 @@
 -- The readers of names, constants, columns and operands are exact.
-use Rattle.std.proofs.Common.{◌≡◌, ℕ, Bool, true, false, List, [], ◌∷◌, Option, Some, None, refl}
+use Rattle.std.proofs.Common.{ℕ, true, false, List, [], ◌∷◌, Option, Some, None, refl}
 use Rattle.std.specs.Prelude.{pos}
 use Rattle.std.proofs.Math.IntN.{neg_ℤ}
 use Rattle.wm_base.specs.declared.instant.TheConstants.{END}
@@ -15,10 +15,8 @@ use Rattle.wm_syntax.specs.declared.operand.Operand.TheVariants as operands
 use Rattle.wm_instants.specs.declared.form.DateForm.TheVariants as dates
 use Rattle.wm_grammar.specs.Sorts as sorts
 use Rattle.wm_grammar.specs.Meaning.{folded, int_of, between, unquoted, instant_for, mask_of, operator_of}
-use Rattle.wm_grammar.specs.Forms.{Form}
-use Rattle.wm_grammar.specs.Reading.{Reader}
-use Rattle.wm_grammar.specs.Operands.{word, integer, quoted, mask, text_constant, id, plain_name, name, instant, until_changed, period_end, period, plain_constant, constant, suffix, column_of, column_after, other_column, column, per, operator_test, operand_named, operand_after, operand_with, operand, plain_operand}
-use Rattle.wm_grammar.specs.OperandReaders.{word_at, integer_at, quoted_at, mask_at, text_at, id_at, plain_name_at, name_at, instant_at, until_changed_at, period_end_at, period_at, plain_constant_at, constant_at, suffix_at, column_of_at, column_after_at, other_column_at, column_at, per_at, operator_test_at, operand_named_at, operand_after_at, operand_with_at, operand_at, plain_operand_at, instant_sorts, other_column_sorts}
+use Rattle.wm_grammar.specs.Operands.{word, integer, quoted, mask, text_constant, plain_name, name, instant, until_changed, period_end, period, plain_constant, constant, suffix, column_of, column_after, other_column, column, per, operator_test, operand_named, operand_after, operand, plain_operand}
+use Rattle.wm_grammar.specs.OperandReaders.{word_at, integer_at, quoted_at, mask_at, plain_name_at, name_at, instant_at, until_changed_at, period_end_at, period_at, plain_constant_at, constant_at, suffix_at, column_of_at, column_after_at, other_column_at, column_at, per_at, operator_test_at, operand_named_at, operand_after_at, operand_at, plain_operand_at, instant_sorts, other_column_sorts}
 use Rattle.wm_grammar.proofs.Laws.{Shape, Exact, one_shape, gives_exact, one_exact, one_for_exact, mark_exact, then_exact, or_exact, optional_exact, loosened}
 
 -- a shape of what is not empty

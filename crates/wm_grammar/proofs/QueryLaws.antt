@@ -1,24 +1,24 @@
 -- The readers of queries are exact.
-use Rattle.std.proofs.Common.{◌≡◌, ℕ, zero, suc, Bool, true, false, List, [], ◌∷◌, Option, Some, None, refl}
+use Rattle.std.proofs.Common.{◌≡◌, ℕ, zero, suc, Bool, true, false, List, [], ◌∷◌, Some, None, refl}
 use Rattle.std.specs.Prelude.{is_some, pos}
 use Rattle.wm_syntax.specs.declared.query.Agg.TheVariants as aggs
 use Rattle.wm_syntax.specs.declared.query.OrderBy.TheVariants as keys
 use Rattle.wm_syntax.specs.declared.query.Order.{Order}
 use Rattle.wm_syntax.specs.declared.column.Col.{Col}
-use Rattle.wm_syntax.specs.Trees.{Expr, Cond, Item, Out, Projection, Src, Query, has_aggregate}
+use Rattle.wm_syntax.specs.Trees.{Out, Src, Query, has_aggregate}
 use Rattle.wm_syntax.specs.Trees as trees
 use Rattle.wm_grammar.specs.Sorts as sorts
-use Rattle.wm_grammar.specs.Forms.{Form, many_from}
-use Rattle.wm_grammar.specs.Reading.{Reader, many_from_at}
-use Rattle.wm_grammar.specs.Operands.{id, column}
-use Rattle.wm_grammar.specs.OperandReaders.{id_at, column_at}
+use Rattle.wm_grammar.specs.Forms.{many_from}
+use Rattle.wm_grammar.specs.Reading.{many_from_at}
+use Rattle.wm_grammar.specs.Operands.{column}
+use Rattle.wm_grammar.specs.OperandReaders.{column_at}
 use Rattle.wm_grammar.proofs.Lists.{within}
 use Rattle.wm_grammar.specs.Queries.{list_of, filter, other_aggregate, counted, query_item, out, projection, source, joined, next_source, room, one_less, source_list, is_alone, grouping, direction, order_key, order, ordering, query}
 use Rattle.wm_grammar.specs.QueryReaders.{list_of_at, filter_at, other_aggregate_at, counted_at, other_aggregates, query_item_at, out_at, projection_at, source_at, joined_at, next_source_at, separators, source_list_at, grouping_at, direction_at, order_key_at, order_at, ordering_at, query_at}
 use Rattle.wm_grammar.proofs.Laws.{Shape, Exact, gives_exact, never_exact, mark_exact, then_exact, or_exact, optional_exact, loosened}
 use Rattle.wm_grammar.proofs.Repeating.{item_shape, many_shape, many_exact, many_from_exact}
 use Rattle.wm_grammar.proofs.OperandLaws.{solid, columns, word_exact, integer_exact, column_exact}
-use Rattle.wm_grammar.proofs.ExpressionLaws.{factor_sorts, expr_shape, expr_next, cond_next, expr_exact, condition_exact}
+use Rattle.wm_grammar.proofs.ExpressionLaws.{factor_sorts, expr_next, cond_next, expr_exact, condition_exact}
 
 abbrev pub filter_shape : Shape
 filter_shape = record { empty = true; first = sorts.WHERE ∷ []; next = sorts.WHERE ∷ cond_next; sure = [] }

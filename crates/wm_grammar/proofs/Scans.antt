@@ -1,10 +1,10 @@
 -- The symbols of a line, one after the other.
-use Rattle.std.proofs.Common.{◌≡◌, ℕ, zero, suc, ◌≤◌, ◌<◌, List, [], ◌∷◌, length, take, drop, refl, sym, ap, ◌∙◌, arith}
+use Rattle.std.proofs.Common.{◌≡◌, ℕ, zero, suc, ◌≤◌, List, [], ◌∷◌, length, drop, refl, ap, arith}
 use Rattle.std.proofs.Math.Nat.{le_refl}
 use Rattle.std.proofs.lemmas.List.{length-drop, length-append}
 use Rattle.wm_lexer.specs.Scanning.{skipped, token_from}
 use Rattle.wm_lexer.proofs.Longest.{some_byte}
-use Rattle.wm_lexer.proofs.Line.{Skips, skips}
+use Rattle.wm_lexer.proofs.Line.{skips}
 use Rattle.wm_grammar.specs.Symbols.{Symbol}
 use Rattle.wm_grammar.specs.Scanned.{symbol_from, scan, scanned}
 

@@ -3,28 +3,26 @@ use Rattle.std.proofs.Common.{◌≡◌, ℕ, Bool, true, false, List, [], ◌�
 use Rattle.std.specs.Prelude.{not, ◌&&◌, ◌==◌, if◌then◌else◌}
 use Rattle.std.specs.List.{list_all}
 use Rattle.wm_syntax.specs.declared.statement.ColumnType.TheVariants as types
-use Rattle.wm_syntax.specs.declared.statement.CreateItem.{CreateItem}
 use Rattle.wm_syntax.specs.declared.statement.CreateItem.TheVariants as items
-use Rattle.wm_syntax.specs.Trees.{Expr, Cond, Set, Statement, Line}
+use Rattle.wm_syntax.specs.Trees.{Set}
 use Rattle.wm_syntax.specs.Trees as trees
 use Rattle.wm_grammar.specs.Sorts as sorts
-use Rattle.wm_grammar.specs.Meaning.{number_of}
-use Rattle.wm_grammar.specs.Forms.{Form, many_from}
+use Rattle.wm_grammar.specs.Forms.{many_from}
 use Rattle.wm_grammar.specs.Reading.{many_from_at}
 use Rattle.wm_grammar.specs.Operands.{plain_name, name}
-use Rattle.wm_grammar.specs.OperandReaders.{plain_name_at, name_at}
+use Rattle.wm_grammar.specs.OperandReaders.{plain_name_at}
 use Rattle.wm_grammar.specs.Expressions.{expr}
 use Rattle.wm_grammar.specs.ExpressionReaders.{expr_at}
 use Rattle.wm_grammar.specs.Queries.{list_of}
 use Rattle.wm_grammar.specs.QueryReaders.{list_of_at}
 use Rattle.wm_grammar.specs.Statements.{size_of, precision, column_type, column_option, also, all_also, column_options, column_item, key_columns, create_item, next_item, is_key, keyed_by, create_items, create, name_list, insert, set, update, delete, statement, run, line}
-use Rattle.wm_grammar.specs.StatementReaders.{precision_at, column_type_at, column_option_at, option_sorts, column_options_at, column_item_at, key_columns_at, plain_name_sorts, create_item_at, next_item_at, create_items_at, create_at, name_list_at, insert_at, set_at, update_at, delete_at, statement_at, run_at, line_at}
+use Rattle.wm_grammar.specs.StatementReaders.{precision_at, column_type_at, column_option_at, option_sorts, column_options_at, column_item_at, key_columns_at, create_item_at, next_item_at, create_items_at, create_at, name_list_at, insert_at, set_at, update_at, delete_at, statement_at, run_at, line_at}
 use Rattle.wm_grammar.proofs.Lists.{within}
 use Rattle.wm_grammar.proofs.Laws.{Shape, Exact, gives_exact, never_exact, one_exact, one_for_exact, mark_exact, then_exact, or_exact, optional_exact, loosened}
 use Rattle.wm_grammar.proofs.Repeating.{item_shape, many_shape, many_exact, many_from_exact}
 use Rattle.wm_grammar.proofs.OperandLaws.{solid, names, plain_names, word_exact, integer_exact, plain_name_exact, name_exact, instant_exact}
-use Rattle.wm_grammar.proofs.ExpressionLaws.{factor_sorts, expr_shape, expr_next, cond_next, expr_exact}
-use Rattle.wm_grammar.proofs.QueryLaws.{filter_shape, filter_exact, query_next, query_shape, query_exact}
+use Rattle.wm_grammar.proofs.ExpressionLaws.{factor_sorts, expr_next, cond_next, expr_exact}
+use Rattle.wm_grammar.proofs.QueryLaws.{filter_exact, query_next, query_exact}
 use Rattle.wm_grammar.proofs.CallLaws.{call_sorts, call_exact}
 
 -- ---- types

@@ -3,11 +3,11 @@ use Rattle.std.proofs.Common.{◌≡◌, ℕ, List, [], ◌∷◌, ◌++◌, ref
 use Rattle.std.specs.Prelude.{MatchResult}
 use Rattle.std.proofs.lemmas.List.{append-nil}
 use Rattle.std.proofs.Common.{append_assoc}
-use Rattle.wm_grammar.specs.Symbols.{Symbol, left_of}
+use Rattle.wm_grammar.specs.Symbols.{Symbol}
 use Rattle.wm_grammar.specs.Forms.{Form}
 use Rattle.wm_grammar.specs.Reading.{Reader}
 use Rattle.wm_grammar.specs.Faults.{Fault, ended, all_of}
-use Rattle.wm_grammar.proofs.Laws.{Shape, Orderly, Read, Bad, Found, Exact}
+use Rattle.wm_grammar.proofs.Laws.{Shape, Orderly, Read, Found, Exact}
 
 ended_exact : {A : Type 0} (f : Form A) (ts : List Symbol) (x : A) (rest : List Symbol) → Read f ts x rest → ((u : List Symbol) (x : A) → f.Whole u x → f.Begins u) → MatchResult (ended x rest) (λ y. f.Whole ts y) (λ n. Fault f ts n)
 ended_exact f ts x [] p begins = subst (λ (z : List Symbol). f.Whole z x) (sym (p.is ∙ append-nil p.used)) p.whole

@@ -12,9 +12,8 @@ use Rattle.wm_syntax.specs.Trees as trees
 use Rattle.wm_grammar.specs.declared.procedure.Procedure.{Procedure}
 use Rattle.wm_grammar.specs.declared.procedure.Parameter.{Parameter}
 use Rattle.wm_grammar.specs.declared.procedure.Parameter.TheVariants as parameters
-use Rattle.wm_grammar.specs.Symbols.{Symbol}
 use Rattle.wm_grammar.specs.Sorts as sorts
-use Rattle.wm_grammar.specs.Forms.{Form, gives, one_for, mark, never, ◌>>=◌, ◌>>◌, ◌or◌, optional, many_from}
+use Rattle.wm_grammar.specs.Forms.{Form, gives, one_for, mark, never, ◌>>=◌, ◌>>◌, ◌or◌, many_from}
 use Rattle.wm_grammar.specs.Operands.{integer, instant, until_changed, period, constant}
 use Rattle.wm_grammar.specs.Calls.{procedure_of, is_same, next_place, open_parameter, with_text, with_name, clause, gathered, one_more}
 

@@ -12,7 +12,6 @@ use Rattle.wm_syntax.specs.Trees as trees
 use Rattle.wm_grammar.specs.declared.procedure.Procedure.{Procedure}
 use Rattle.wm_grammar.specs.declared.procedure.Parameter.{Parameter}
 use Rattle.wm_grammar.specs.declared.procedure.Parameter.TheVariants as parameters
-use Rattle.wm_grammar.specs.Symbols.{Symbol}
 use Rattle.wm_grammar.specs.Sorts as sorts
 use Rattle.wm_grammar.specs.Reading.{Reader, gives_at, never_at, one_for_at, mark_at, ◌>>=◌, ◌>>◌, choose_at, many_from_at}
 use Rattle.wm_grammar.specs.OperandReaders.{integer_at, instant_at, until_changed_at, period_at, constant_at, instant_sorts}

@@ -1,5 +1,5 @@
 -- Calls of DBMS_WM: the table of procedures and their parameters, and what an argument is.
-use Rattle.std.specs.Prelude.{ℕ, zero, suc, ◌+◌, Bool, true, false, not, ◌||◌, ◌&&◌, ◌==◌, if◌then◌else◌, length, List, [], ◌∷◌, ◌++◌, Option, Some, None, is_some, Result, Ok, Err, codes, slice_get}
+use Rattle.std.specs.Prelude.{ℕ, ◌+◌, Bool, true, false, not, ◌||◌, ◌&&◌, ◌==◌, if◌then◌else◌, length, List, [], ◌∷◌, ◌++◌, Option, Some, None, is_some, Result, Ok, Err, codes, slice_get}
 use Rattle.std.specs.Str.{str_eq_ignore_ascii_case}
 use Rattle.wm_syntax.specs.declared.constant.Const.{Const}
 use Rattle.wm_syntax.specs.declared.constant.Const.TheVariants as consts
@@ -12,7 +12,6 @@ use Rattle.wm_grammar.specs.declared.procedure.Procedure.TheVariants as procedur
 use Rattle.wm_grammar.specs.declared.procedure.Parameter.{Parameter}
 use Rattle.wm_grammar.specs.declared.procedure.Parameter.TheVariants as parameters
 use Rattle.wm_grammar.specs.Symbols.{Symbol}
-use Rattle.wm_grammar.specs.Sorts as sorts
 use Rattle.wm_grammar.specs.Meaning.{folded, unquoted}
 use Rattle.wm_grammar.specs.Scanned.{symbols_of}
 use Rattle.wm_grammar.specs.Faults.{all_of}

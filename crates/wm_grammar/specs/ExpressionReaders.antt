@@ -1,5 +1,5 @@
 -- The readers of expressions and conditions.
-use Rattle.std.specs.Prelude.{ℕ, zero, suc, Bool, true, false, is_some, List, [], ◌∷◌, Option, Some, None}
+use Rattle.std.specs.Prelude.{ℕ, zero, suc, Bool, true, false, is_some, List, [], ◌∷◌}
 use Rattle.wm_syntax.specs.declared.constant.Const.{Const}
 use Rattle.wm_syntax.specs.declared.operand.Operand.{Operand}
 use Rattle.wm_syntax.specs.declared.cond.Cmp.{Cmp}

@@ -1,5 +1,5 @@
 -- Expressions and conditions. Where a depth is given, at most so many parentheses, signs and NOT may be open at one place.
-use Rattle.std.specs.Prelude.{ℕ, zero, suc, Bool, true, false, is_some, List, [], ◌∷◌, Option, Some, None}
+use Rattle.std.specs.Prelude.{ℕ, zero, suc, Bool, true, false, is_some, List, [], ◌∷◌}
 use Rattle.wm_syntax.specs.declared.constant.Const.{Const}
 use Rattle.wm_syntax.specs.declared.operand.Operand.{Operand}
 use Rattle.wm_syntax.specs.declared.cond.Cmp.{Cmp}
@@ -7,7 +7,7 @@ use Rattle.wm_syntax.specs.declared.cond.Cmp.TheVariants as cmps
 use Rattle.wm_syntax.specs.Trees.{Expr, Cond}
 use Rattle.wm_syntax.specs.Trees as trees
 use Rattle.wm_grammar.specs.Sorts as sorts
-use Rattle.wm_grammar.specs.Forms.{Form, gives, mark, never, ◌>>=◌, ◌>>◌, ◌or◌, optional, many}
+use Rattle.wm_grammar.specs.Forms.{Form, gives, mark, ◌>>=◌, ◌>>◌, ◌or◌, optional, many}
 use Rattle.wm_grammar.specs.Operands.{constant, operand, plain_operand}
 
 -- ---- expressions

@@ -2,7 +2,6 @@
 use Rattle.std.specs.Prelude.{◌≡◌, ℕ, List, [], ◌∷◌, ◌++◌, Option, Some, None, Result, Ok, Err}
 use Rattle.wm_grammar.specs.Symbols.{Symbol, left_of}
 use Rattle.wm_grammar.specs.Forms.{Form}
-use Rattle.wm_grammar.specs.Reading.{Reader}
 
 -- The symbols before it begin the form, and with it they do not. Where no symbol is left, all of them begin the form and are no whole one.
 pub record Fault {A : Type 0} (f : Form A) (ts : List Symbol) (left : ℕ) : Type 0 where

@@ -16,7 +16,6 @@ use Rattle.wm_syntax.specs.declared.operand.Operand.{Operand}
 use Rattle.wm_syntax.specs.declared.operand.Operand.TheVariants as operands
 use Rattle.wm_instants.specs.declared.form.DateForm.{DateForm}
 use Rattle.wm_instants.specs.declared.form.DateForm.TheVariants as dates
-use Rattle.wm_grammar.specs.Symbols.{Symbol}
 use Rattle.wm_grammar.specs.Sorts as sorts
 use Rattle.wm_grammar.specs.Meaning.{folded, int_of, between, unquoted, instant_for, mask_of, operator_of}
 use Rattle.wm_grammar.specs.Operands.{text_constant}

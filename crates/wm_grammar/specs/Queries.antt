@@ -6,7 +6,7 @@ use Rattle.wm_syntax.specs.declared.query.Agg.TheVariants as aggs
 use Rattle.wm_syntax.specs.declared.query.OrderBy.{OrderBy}
 use Rattle.wm_syntax.specs.declared.query.OrderBy.TheVariants as keys
 use Rattle.wm_syntax.specs.declared.query.Order.{Order}
-use Rattle.wm_syntax.specs.Trees.{Expr, Cond, Item, Out, Projection, Src, Query, has_aggregate}
+use Rattle.wm_syntax.specs.Trees.{Cond, Item, Out, Projection, Src, Query, has_aggregate}
 use Rattle.wm_syntax.specs.Trees as trees
 use Rattle.wm_grammar.specs.Sorts as sorts
 use Rattle.wm_grammar.specs.Forms.{Form, gives, mark, never, ◌>>=◌, ◌>>◌, ◌or◌, optional, many, many_from}

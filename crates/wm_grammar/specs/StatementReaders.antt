@@ -1,14 +1,13 @@
 -- The readers of statements that change, and of lines.
-use Rattle.std.specs.Prelude.{ℕ, zero, Bool, true, false, not, ◌&&◌, ◌==◌, if◌then◌else◌, List, [], ◌∷◌, Option, Some, None}
+use Rattle.std.specs.Prelude.{ℕ, Bool, true, false, not, ◌&&◌, ◌==◌, if◌then◌else◌, List, [], ◌∷◌, Option, Some, None}
 use Rattle.wm_syntax.specs.declared.statement.ColumnType.{ColumnType}
 use Rattle.std.specs.List.{list_all}
 use Rattle.wm_syntax.specs.declared.statement.ColumnType.TheVariants as types
 use Rattle.wm_syntax.specs.declared.statement.CreateItem.{CreateItem}
 use Rattle.wm_syntax.specs.declared.statement.CreateItem.TheVariants as items
-use Rattle.wm_syntax.specs.Trees.{Expr, Cond, Set, Statement, Line}
+use Rattle.wm_syntax.specs.Trees.{Expr, Set, Statement, Line}
 use Rattle.wm_syntax.specs.Trees as trees
 use Rattle.wm_grammar.specs.Sorts as sorts
-use Rattle.wm_grammar.specs.Meaning.{number_of}
 use Rattle.wm_grammar.specs.Reading.{Reader, gives_at, never_at, one_for_at, mark_at, ◌>>=◌, ◌>>◌, choose_at, optional_at, many_from_at}
 use Rattle.wm_grammar.specs.OperandReaders.{id_at, word_at, integer_at, plain_name_at, name_at, instant_at}
 use Rattle.wm_grammar.specs.ExpressionReaders.{expr_at}

@@ -1,16 +1,16 @@
 -- Statements that change, and lines.
-use Rattle.std.specs.Prelude.{ℕ, zero, Bool, true, false, not, ◌||◌, ◌&&◌, ◌==◌, nat_le, cond, if◌then◌else◌, List, [], ◌∷◌, Option, Some, None}
+use Rattle.std.specs.Prelude.{ℕ, Bool, true, false, not, ◌||◌, ◌&&◌, ◌==◌, nat_le, if◌then◌else◌, List, [], ◌∷◌, Option, Some, None}
 use Rattle.wm_syntax.specs.declared.statement.ColumnType.{ColumnType}
 use Rattle.std.specs.List.{list_all}
 use Rattle.wm_syntax.specs.declared.statement.ColumnType.TheVariants as types
 use Rattle.wm_syntax.specs.declared.statement.CreateItem.{CreateItem}
 use Rattle.wm_syntax.specs.declared.statement.CreateItem.TheVariants as items
-use Rattle.wm_syntax.specs.Trees.{Expr, Cond, Set, Statement, Line}
+use Rattle.wm_syntax.specs.Trees.{Set, Statement, Line}
 use Rattle.wm_syntax.specs.Trees as trees
 use Rattle.wm_grammar.specs.Symbols.{Symbol}
 use Rattle.wm_grammar.specs.Sorts as sorts
 use Rattle.wm_grammar.specs.Meaning.{number_of}
-use Rattle.wm_grammar.specs.Forms.{Form, gives, one_for, mark, never, ◌>>=◌, ◌>>◌, ◌or◌, optional, many, many_from}
+use Rattle.wm_grammar.specs.Forms.{Form, gives, one_for, mark, never, ◌>>=◌, ◌>>◌, ◌or◌, optional, many_from}
 use Rattle.wm_grammar.specs.Operands.{id, word, integer, plain_name, name, instant}
 use Rattle.wm_grammar.specs.Expressions.{expr}
 use Rattle.wm_grammar.specs.Queries.{list_of, filter, query}

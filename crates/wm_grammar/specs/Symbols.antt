@@ -1,5 +1,5 @@
 -- A symbol is what the grammar sees of a token.
-use Rattle.std.specs.Prelude.{ℕ, Bool, true, false, List, [], ◌∷◌, ◌==◌, ◌||◌, ◌&&◌}
+use Rattle.std.specs.Prelude.{ℕ, Bool, false, List, [], ◌∷◌, ◌==◌, ◌||◌}
 
 -- its sort, its text (a word folded, a text without its quotes), and how many bytes of the line it and all behind it are
 pub record Symbol : Type 0 where

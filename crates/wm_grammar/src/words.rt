@@ -1,4 +1,4 @@
-ghost use Rattle.std.specs.Prelude.{◌≡◌, ◌↔◌, IsTrue};
+ghost use Rattle.std.specs.Prelude.{◌≡◌};
 ghost use Rattle.std.specs.Str.{str_eq_ignore_ascii_case};
 ghost use Rattle.wm_grammar.specs.Sorts.{code_of};
 ghost use Rattle.wm_grammar.specs.Words.{word_sort, word_sort2, word_sort3, word_sort4, word_sort5, word_sort6, word_sort7, single_sort, pair_sort, mark_sort, sort_of};

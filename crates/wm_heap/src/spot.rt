@@ -1,5 +1,5 @@
 //! The places at which records stand.
-ghost use Rattle.std.specs.Prelude.{◌≡◌, ◌∷◌, [], ◌++◌, length, OnOk, OnErr};
+ghost use Rattle.std.specs.Prelude.{◌≡◌, ◌∷◌, [], ◌++◌, OnOk, OnErr};
 
 use std::alloc::Global;
 use std::marker::Model;

@@ -1,5 +1,5 @@
 //! The slots of a page, as the store has them.
-ghost use Rattle.std.specs.Prelude.{◌≡◌, ℕ, ◌<◌, ◌≤◌, true, length, is_some, IfOk, IsErrOf};
+ghost use Rattle.std.specs.Prelude.{◌≡◌, ◌<◌, ◌≤◌, true, is_some, IfOk, IsErrOf};
 ghost use Rattle.wm_base.specs.declared.fault.StoreFault.TheVariants as faults;
 ghost use Rattle.wm_page.specs.Cause.{StoreCause};
 ghost use Rattle.wm_heap.specs.Content.{slots_in};

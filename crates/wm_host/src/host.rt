@@ -1,5 +1,5 @@
 //! What takes the bytes of a script one by one, and answers each line as it ends.
-ghost use Rattle.std.specs.Prelude.{◌≡◌, ◌+◌, ◌^◌, ◌<◌, ◌≤◌, ◌⊎◌, List, [], ◌∷◌, length, OnOk, OnErr, IfOk, IsErrOf, IfErr, true};
+ghost use Rattle.std.specs.Prelude.{◌≡◌, ◌+◌, ◌^◌, ◌<◌, ◌≤◌, ◌⊎◌, [], ◌∷◌, length, OnOk, OnErr, IfOk, IsErrOf, IfErr, true};
 ghost use Rattle.wm_engine.specs.Working.{FileStands, IsSound, StandsFor};
 ghost use Rattle.wm_model.specs.Lines.{HasNoLf, capped};
 ghost use Rattle.wm_model.specs.Step.{step};

@@ -1,6 +1,5 @@
 //! Saying the whole of an answer.
-ghost use Rattle.std.specs.Prelude.{◌≡◌, ◌≤◌, List, IfErr, OnOk, OnErr, IsErrOf};
-ghost use Rattle.wm_model.specs.Running.{IsPart};
+ghost use Rattle.std.specs.Prelude.{◌≡◌, ◌≤◌, IfErr, OnOk, OnErr, IsErrOf};
 ghost use Rattle.wm_station.specs.Cause.{Rises};
 ghost use Rattle.wm_station.specs.Moments.{During};
 ghost use Rattle.wm_host.specs.Cause.{IsOfSaying};

@@ -1,5 +1,5 @@
 //! The loop over the source of a script.
-ghost use Rattle.std.specs.Prelude.{◌≡◌, ◌+◌, ◌^◌, ◌≤◌, List, [], length, true, OnOk, OnErr, IsErrOf, IfErr};
+ghost use Rattle.std.specs.Prelude.{◌≡◌, ◌+◌, ◌^◌, ◌≤◌, [], length, true, OnOk, OnErr, IsErrOf, IfErr};
 ghost use Rattle.wm_engine.specs.Working.{StandsFor};
 ghost use Rattle.wm_model.specs.Lines.{capped};
 ghost use Rattle.wm_state.specs.State.{State};

@@ -1,5 +1,5 @@
 -- Seconds and the days of jiff's calendar.
-use Rattle.std.proofs.Common.{◌≡◌, ℕ, ◌+◌, ◌-◌, ◌*◌, ◌/◌, ◌%◌, ◌<◌, ◌≤◌, ◌^◌, true, false, ◌&&◌, Ok, Err, to_z, w8, w16, refl, sym, ap, ◌∙◌, arith, rules, ℤ, pos, negsuc, neg_ℤ, ◌+ℤ◌, ◌-ℤ◌, ◌*ℤ◌, ◌<ℤ◌, ◌≤ℤ◌, unsigned_abs, int_div}
+use Rattle.std.proofs.Common.{◌≡◌, ℕ, ◌+◌, ◌-◌, ◌*◌, ◌/◌, ◌<◌, ◌≤◌, true, false, ◌&&◌, Ok, Err, to_z, w8, w16, refl, ap, ◌∙◌, arith, rules, ℤ, pos, neg_ℤ, ◌+ℤ◌, ◌-ℤ◌, ◌*ℤ◌, ◌≤ℤ◌, unsigned_abs, int_div}
 use Rattle.std.proofs.lemmas.Bool.{false_from_ne_true, and_parts}
 use Rattle.std.proofs.lemmas.Int.{by_lt_z}
 use Rattle.jiff_core.specs.declared.civil.date.Date.{Date}
@@ -10,7 +10,7 @@ use Rattle.jiff_core.specs.DateTime.{civil_nanos}
 use Rattle.jiff_core.specs.Time.{time_seconds, IsTime, IsHms}
 use Rattle.jiff_core.proofs.SignedLemmas.{signed_arith, signed_casts, one_part}
 use Rattle.jiff_core.proofs.CalendarLemmas.{days_from_civil-day_count, day_count-lt_year, day_count-day_of_year}
-use Rattle.jiff_core.proofs.DateLemmas.{epoch_day_range, civil}
+use Rattle.jiff_core.proofs.DateLemmas.{epoch_day_range}
 use Rattle.wm_base.specs.declared.instant.TheConstants.{END}
 use Rattle.wm_instants.specs.Instants.{is_date, is_clock, instant_at}
 use Rattle.wm_instants.specs.declared.refusal.InstantRefusal.TheVariants.{Range}

@@ -1,9 +1,8 @@
 -- A date and a time of day, one behind the other.
-use Rattle.std.proofs.Common.{◌≡◌, ◌≢◌, ℕ, zero, suc, ◌+◌, ◌-◌, ◌*◌, ◌<◌, ◌≤◌, List, [], ◌∷◌, ◌++◌, length, get_or, take, drop, length-take, refl, sym, ap, ◌∙◌, Bool, true, false, ◌&&◌, ◌||◌, arith, Option, Some, None, cond, Result, Err, inl, inr}
-use Rattle.std.specs.Prelude.{nat_eq, if◌then◌else◌}
-use Rattle.std.specs.Char.{is_ascii_digit}
+use Rattle.std.proofs.Common.{◌≡◌, ◌≢◌, ℕ, ◌+◌, ◌-◌, ◌*◌, List, [], ◌∷◌, ◌++◌, length, get_or, take, drop, length-take, refl, sym, ap, ◌∙◌, Bool, true, false, ◌&&◌, ◌||◌, arith, Some, None, cond, Result, Err, inl, inr}
+use Rattle.std.specs.Prelude.{nat_eq}
 use Rattle.std.proofs.Math.Seq.{drop-cons}
-use Rattle.std.proofs.Math.Bool.{and-false, false-and}
+use Rattle.std.proofs.Math.Bool.{and-false}
 use Rattle.std.proofs.lemmas.Bool.{ne_eqb, eq-eqb}
 use Rattle.std.proofs.lemmas.Bool.Decides.{eqb_tells}
 use Rattle.std.proofs.lemmas.List.{take-append-drop}
@@ -13,7 +12,7 @@ use Rattle.wm_instants.specs.declared.fields.Clock.{Clock}
 use Rattle.wm_instants.specs.declared.refusal.InstantRefusal.{InstantRefusal}
 use Rattle.wm_instants.specs.declared.refusal.InstantRefusal.TheVariants.{Shape}
 use Rattle.wm_instants.specs.declared.form.DateForm.TheVariants.{Date, MonthFirst, Seconds, Timestamp}
-use Rattle.wm_instants.specs.Instants.{has_form, field, field_from, date_form, clock_form, seconds_form, month_first_form, is_letter, read_by, instant_in, instant_by, year_letter, month_letter, day_letter, hour_letter, minute_letter, second_letter}
+use Rattle.wm_instants.specs.Instants.{has_form, field, field_from, date_form, clock_form, seconds_form, month_first_form, is_letter, read_by, instant_in, year_letter, month_letter, day_letter, hour_letter, minute_letter, second_letter}
 use Rattle.wm_instants.specs.Fields.{day_in, clock_in, instant_from, midnight}
 use Rattle.wm_instants.proofs.FormLemmas.{has_form-length}
 

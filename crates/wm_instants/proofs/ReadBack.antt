@@ -1,5 +1,5 @@
 -- What is written is read back.
-use Rattle.std.proofs.Common.{◌≡◌, ◌≢◌, ℕ, ◌+◌, ◌-◌, ◌*◌, ◌/◌, ◌%◌, ◌<◌, ◌≤◌, List, [], ◌∷◌, ◌++◌, length, get_or, take, drop, refl, sym, ap, ◌∙◌, Bool, true, false, ◌&&◌, arith, Option, Some, None, Ok, ℤ, pos, neg_ℤ, ◌+ℤ◌, ◌-ℤ◌, ◌≤ℤ◌, unsigned_abs}
+use Rattle.std.proofs.Common.{◌≡◌, ℕ, ◌+◌, ◌-◌, ◌*◌, ◌/◌, ◌%◌, ◌<◌, ◌≤◌, ◌++◌, take, drop, refl, sym, ap, ◌∙◌, true, arith, Some, Ok, ℤ, pos, neg_ℤ, ◌+ℤ◌, ◌-ℤ◌, ◌≤ℤ◌, unsigned_abs}
 use Rattle.std.specs.Prelude.{codes}
 use Rattle.std.specs.Char.{is_ascii_digit}
 use Rattle.std.proofs.lemmas.Bool.{le-leb}
@@ -12,8 +12,8 @@ use Rattle.jiff_core.proofs.SignedLemmas.{signed_arith, one_part}
 use Rattle.jiff_core.proofs.CalendarLemmas.{days_in_month_bounds}
 use Rattle.jiff_core.proofs.DateLemmas.{civil}
 use Rattle.wm_base.specs.declared.instant.TheConstants.{END}
-use Rattle.wm_instants.specs.Fields.{two_at, four_at, instant_from}
-use Rattle.wm_instants.specs.Instants.{instant_of, instant_at, date_form}
+use Rattle.wm_instants.specs.Fields.{two_at, four_at}
+use Rattle.wm_instants.specs.Instants.{instant_of, instant_at}
 use Rattle.wm_instants.specs.Texts.{date_text, clock_text, instant_text, year_of, month_of, day_of, second_of_day}
 use Rattle.wm_instants.proofs.CivilLemmas.{named_date, days_behind, first_day}
 use Rattle.wm_instants.proofs.FormLemmas.{day_in-date, clock_in-cells}

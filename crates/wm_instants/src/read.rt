@@ -1,7 +1,7 @@
 ghost use Rattle.std.specs.Prelude.{◌≡◌, ◌∷◌, [], false};
 ghost use Rattle.std.specs.Option.{ForSome};
 ghost use Rattle.wm_instants.specs.Fields.{IsSmallDay, instant_from, midnight};
-ghost use Rattle.wm_instants.specs.Instants.{date_form, month_first_form, seconds_form, is_letter, read_by, instant_in, instant_of};
+ghost use Rattle.wm_instants.specs.Instants.{seconds_form, is_letter, read_by, instant_in, instant_of};
 
 use crate::civil::instant_of_fields;
 use crate::fields::{Clock, Day, month_first, time_of_day, year_first};

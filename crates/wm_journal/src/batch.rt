@@ -1,5 +1,5 @@
 //! What a batch says, and how a journal keeps it.
-ghost use Rattle.std.specs.Prelude.{◌≡◌, ◌≤◌, ◌+◌, ◌-◌, ◌++◌, length, vec_len, replicate, IfOk, OnOk};
+ghost use Rattle.std.specs.Prelude.{◌≡◌, ◌≤◌, ◌+◌, ◌-◌, ◌++◌, vec_len, replicate, IfOk, OnOk};
 ghost use Rattle.wm_page.specs.Batch.{entries};
 ghost use Rattle.wm_page.specs.Fields.{eight_bytes};
 ghost use Rattle.wm_journal.specs.Store.{count_after};

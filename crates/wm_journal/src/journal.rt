@@ -1,5 +1,5 @@
 //! The journal of a store's pages.
-ghost use Rattle.std.specs.Prelude.{◌≡◌, ℕ, ◌+◌, ◌*◌, ◌<◌, ◌≤◌, ◌⊎◌, max, [], true, false, length, IsTrue, Ok, IfOk, IfErr, OnOk, OnErr, IsErrOf, None};
+ghost use Rattle.std.specs.Prelude.{◌≡◌, ℕ, ◌*◌, ◌<◌, ◌≤◌, ◌⊎◌, max, [], true, false, length, IsTrue, Ok, IfOk, IfErr, OnOk, OnErr, IsErrOf, None};
 ghost use Rattle.wm_page.specs.Batch.{entries};
 ghost use Rattle.wm_page.specs.Cause.{MakeCause, OpenCause, StoreCause};
 ghost use Rattle.wm_page.specs.Entries.{is_named};

@@ -1,5 +1,5 @@
 //! Bringing the images of an open journal to their places.
-ghost use Rattle.std.specs.Prelude.{◌≡◌, ◌+◌, ◌-◌, ◌*◌, ◌/◌, ◌^◌, ◌<◌, ◌≤◌, ◌++◌, ◌↔◌, [], true, false, All, ⊤, length, MatchOption, IsTrue, IfOk, IfErr, OnOk, OnErr, IsErrOf};
+ghost use Rattle.std.specs.Prelude.{◌≡◌, ◌+◌, ◌-◌, ◌*◌, ◌/◌, ◌^◌, ◌<◌, ◌≤◌, ◌++◌, ◌↔◌, true, false, All, ⊤, length, MatchOption, IsTrue, IfOk, IfErr, OnOk, OnErr};
 ghost use Rattle.wm_page.specs.Batch.{entries};
 ghost use Rattle.wm_page.specs.Cause.{OpenCause};
 ghost use Rattle.wm_page.specs.Entries.{is_named};

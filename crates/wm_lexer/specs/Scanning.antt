@@ -1,5 +1,5 @@
 -- Which token stands at the front of the bytes, as functions.
-use Rattle.std.specs.Prelude.{ℕ, zero, suc, ◌+◌, ◌-◌, Bool, true, false, not, ◌||◌, ◌==◌, if◌then◌else◌, List, [], ◌∷◌, length, drop, take_while, Option, Some, None, codes}
+use Rattle.std.specs.Prelude.{ℕ, ◌+◌, ◌-◌, Bool, false, not, ◌||◌, ◌==◌, if◌then◌else◌, List, [], ◌∷◌, length, take_while, Option, Some, None, codes}
 use Rattle.std.specs.Char.{is_ascii_alphabetic, is_ascii_alphanumeric, is_ascii_digit}
 use Rattle.wm_lexer.specs.declared.token.TokenKind.{TokenKind}
 use Rattle.wm_lexer.specs.declared.token.TokenKind.TheVariants.{Id, Int, Text, Mark, Bad}

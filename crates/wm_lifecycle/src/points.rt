@@ -1,11 +1,11 @@
 //! Where a savepoint is made in a workspace, and its record.
-ghost use Rattle.std.specs.Prelude.{◌≡◌, ◌<◌, ◌^◌, List, Some, true, ℕ, Bool};
+ghost use Rattle.std.specs.Prelude.{◌≡◌, ◌<◌, Some, true};
 ghost use Rattle.std.specs.Option.{option_map};
 ghost use Rattle.wm_graph.specs.Parts.{parts_of};
 ghost use Rattle.wm_graph.specs.Rules.{keep_rules};
 ghost use Rattle.wm_lifecycle.specs.Points.{point_view};
 ghost use Rattle.wm_state.specs.Editing.{stand_of};
-ghost use Rattle.wm_state.specs.Points.{made_at, newest_point, next_place_at, point_at, saved_point};
+ghost use Rattle.wm_state.specs.Points.{made_at, newest_point, point_at, saved_point};
 ghost use Rattle.wm_state.specs.Standing.{making_behind};
 
 use wm_base::Name;

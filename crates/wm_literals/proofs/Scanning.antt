@@ -1,11 +1,11 @@
 -- Going over the symbols of a line.
-use Rattle.std.proofs.Common.{◌≡◌, ℕ, zero, suc, ◌+◌, ◌-◌, ◌≤◌, ◌<◌, Bool, true, false, cond, leb, List, [], ◌∷◌, length, refl, sym, ap, ◌∙◌, arith, Option, Some, None}
+use Rattle.std.proofs.Common.{◌≡◌, ℕ, zero, suc, ◌+◌, ◌-◌, ◌≤◌, ◌<◌, Bool, true, false, cond, leb, List, [], ◌∷◌, length, refl, sym, ap, ◌∙◌, arith, Some, None}
 use Rattle.std.specs.Prelude.{not, ◌==◌, ◌&&◌, ◌^◌, nat_le, is_some}
-use Rattle.std.proofs.lemmas.Bool.{leb-true, eqb-true}
+use Rattle.std.proofs.lemmas.Bool.{eqb-true}
 use Rattle.wm_lexer.specs.Scanning.{skipped}
 use Rattle.wm_grammar.specs.Symbols.{Symbol, left_of}
 use Rattle.wm_grammar.specs.Sorts as sorts
-use Rattle.wm_grammar.specs.Meaning.{number_of, greatest}
+use Rattle.wm_grammar.specs.Meaning.{greatest}
 use Rattle.wm_grammar.specs.Scanned.{scan, scanned, symbols_of}
 use Rattle.wm_grammar.proofs.Scans.{skipped_shorter}
 use Rattle.wm_grammar.specs.Next.{next_sort, behind, no_more}

@@ -1,7 +1,7 @@
-ghost use Rattle.std.specs.Prelude.{◌≡◌, ◌+◌, ◌<◌, ◌^◌, ◌==◌, List, length, drop, IfOk};
+ghost use Rattle.std.specs.Prelude.{◌≡◌, ◌+◌, ◌<◌, ◌^◌, ◌==◌, length, drop, IfOk};
 ghost use Rattle.wm_grammar.specs.Sorts.{code_of};
 ghost use Rattle.wm_grammar.specs.Meaning.{between, mask_of};
-ghost use Rattle.wm_grammar.specs.Next.{next_sort, next_text, behind, no_more};
+ghost use Rattle.wm_grammar.specs.Next.{next_text, behind};
 ghost use Rattle.wm_grammar.specs.Literals.{too_great, no_size, no_date, nothing, depth_after, all_parameters, names_procedure, slots_after, named_after, after, date_form, is_bad, is_clause_slot, takes_clause, bad_within, is_bad_clause, is_bad_in_line, bad_literal};
 ghost use Rattle.wm_literals.specs.Places.{before};
 

@@ -1,5 +1,5 @@
 //! What INSERT is refused for by its names and its types.
-ghost use Rattle.std.specs.Prelude.{◌≡◌, ◌==◌, ℕ, [], true, false, None, IfOk, is_some, slice_get, option_copied, length};
+ghost use Rattle.std.specs.Prelude.{◌≡◌, ◌==◌, [], true, false, None, IfOk, is_some, option_copied};
 ghost use Rattle.std.specs.List.{find, list_all, list_any};
 ghost use Rattle.std.specs.Str.{bytes_eq};
 ghost use Rattle.wm_syntax.specs.Views.{expr_view, exprs_view};

@@ -1,5 +1,5 @@
 //! The row that INSERT writes.
-ghost use Rattle.std.specs.Prelude.{◌≡◌, [], true, Some, None, map, slice_get, unwrap_or, IfOk};
+ghost use Rattle.std.specs.Prelude.{◌≡◌, true, Some, None, map, slice_get, unwrap_or, IfOk};
 ghost use Rattle.std.specs.List.{list_all, position};
 ghost use Rattle.std.specs.Option.{option_and_then};
 ghost use Rattle.std.specs.Result.{IsErrOf};

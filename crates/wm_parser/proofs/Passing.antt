@@ -6,7 +6,7 @@ use Rattle.wm_grammar.specs.Symbols.{Symbol, next_in}
 use Rattle.wm_grammar.specs.Sorts as sorts
 use Rattle.wm_grammar.specs.Reading.{mark_at, bind}
 use Rattle.wm_grammar.specs.Next.{behind}
-use Rattle.wm_parser.specs.Lines.{semicolon_at, some_if}
+use Rattle.wm_parser.specs.Lines.{semicolon_at}
 
 abbrev pub Read : Type 0
 Read = Result (Option (Unit {0}) × List Symbol) ℕ

@@ -1,5 +1,5 @@
 -- What reads the ends of lines, and those that begin with CONNECT, DISCONNECT or AT.
-use Rattle.std.specs.Prelude.{ℕ, Bool, true, false, List, [], ◌∷◌, Option, Some, None}
+use Rattle.std.specs.Prelude.{Bool, true, false, [], ◌∷◌, Option, Some, None}
 use Rattle.wm_syntax.specs.Trees.{Line}
 use Rattle.wm_syntax.specs.Trees as trees
 use Rattle.wm_grammar.specs.Sorts as sorts

@@ -1,4 +1,4 @@
-ghost use Rattle.std.specs.Prelude.{◌≡◌, ◌<◌, ◌^◌, List, length, Ok};
+ghost use Rattle.std.specs.Prelude.{◌≡◌, ◌<◌, ◌^◌, length, Ok};
 ghost use Rattle.wm_syntax.specs.Views.{statement_view, line_view};
 ghost use Rattle.wm_grammar.specs.Scanned.{symbols_of};
 ghost use Rattle.wm_grammar.specs.Faults.{ended, all_of};

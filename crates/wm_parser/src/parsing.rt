@@ -1,4 +1,4 @@
-ghost use Rattle.std.specs.Prelude.{◌≡◌, ℕ, ◌≤◌, List, length, IfOk, IfErr, MatchResult, None};
+ghost use Rattle.std.specs.Prelude.{◌≡◌, ℕ, ◌≤◌, length, IfOk, IfErr, MatchResult, None};
 ghost use Rattle.wm_syntax.specs.Trees.{Line as Tree};
 ghost use Rattle.wm_syntax.specs.Views.{line_view};
 ghost use Rattle.wm_grammar.specs.Scanned.{symbols_of};

@@ -1,6 +1,6 @@
 //! A walk over all sides of a key, from stretch to stretch of conflict. Each piece is passed once.
 
-ghost use Rattle.std.specs.Prelude.{◌≡◌, ℕ, ◌<◌, ◌≤◌, ◌&&◌, true, None, is_some, IfNone, IfSome};
+ghost use Rattle.std.specs.Prelude.{◌≡◌, ℕ, ◌<◌, ◌≤◌, ◌&&◌, None, is_some, IfNone, IfSome};
 ghost use Rattle.wm_base.specs.declared.instant.TheConstants.{END};
 ghost use Rattle.wm_net.specs.Conflicts.{same_stamps};
 ghost use Rattle.wm_pending.specs.Sides.{contest_at, stamps_at, stamps_in};

@@ -1,5 +1,5 @@
 //! What becomes of the sessions.
-ghost use Rattle.std.specs.Prelude.{◌≡◌, ◌++◌, ◌∷◌, [], OnOk, if◌then◌else◌};
+ghost use Rattle.std.specs.Prelude.{◌≡◌, OnOk, if◌then◌else◌};
 ghost use Rattle.std.specs.Str.{bytes_eq};
 ghost use Rattle.wm_plan.specs.Stands.{setting_view};
 ghost use Rattle.wm_plan.specs.Views.{seating_view};

@@ -2,7 +2,6 @@
 ghost use Rattle.std.specs.Prelude.{◌≡◌, ◌++◌, OnOk};
 ghost use Rattle.std.specs.List.{flat_map};
 ghost use Rattle.std.specs.Fmt.{decimal, signed_decimal};
-ghost use Rattle.wm_instants.specs.Texts.{instant_text};
 ghost use Rattle.wm_print.specs.Values.{doubled, quoted, period_text, value_text, more, joined, key_text, perhaps_period, place_text};
 
 use std::alloc::Global;

@@ -1,4 +1,4 @@
-ghost use Rattle.std.specs.Prelude.{◌≡◌, List};
+ghost use Rattle.std.specs.Prelude.{◌≡◌};
 ghost use Rattle.wm_syntax.specs.Views.{expr_view, item_view, out_view, outs_view, projection_view, src_view, srcs_view, query_view};
 ghost use Rattle.wm_grammar.specs.OperandReaders.{column_at};
 ghost use Rattle.wm_grammar.specs.Queries.{is_alone, room};

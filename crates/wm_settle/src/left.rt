@@ -1,6 +1,6 @@
 //! What older marks leave of new ones: at a cell of a place the greatest position counts.
 
-ghost use Rattle.std.specs.Prelude.{◌≡◌, ◌∷◌, [], IfOk};
+ghost use Rattle.std.specs.Prelude.{◌≡◌, IfOk};
 ghost use Rattle.std.specs.List.{flat_map};
 ghost use Rattle.std.specs.Option.{option_and_then, option_copied, option_to_list};
 ghost use Rattle.wm_append.specs.Layers.{mark_in};

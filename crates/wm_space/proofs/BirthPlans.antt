@@ -1,6 +1,5 @@
 -- What is told of the plan by which a workspace is born.
 use Rattle.std.proofs.Common.{◌≡◌, ℕ, ◌+◌, ◌<◌, ◌≤◌, nat_lt, true, false, List, [], ◌∷◌, Option, Result, Ok, Err, IfOk, sym, ap, ◌∙◌, arith}
-use Rattle.wm_base.proofs.Plain.{none_since}
 use Rattle.wm_base.specs.declared.memory.Memory.{Memory}
 use Rattle.wm_graph.specs.Parts.{parts_of}
 use Rattle.wm_model.specs.Planning.{Does, IsOpen, Stay}

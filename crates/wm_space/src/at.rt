@@ -1,5 +1,5 @@
 //! AT.
-ghost use Rattle.std.specs.Prelude.{◌≡◌, ◌<◌, ℕ, List, [], true};
+ghost use Rattle.std.specs.Prelude.{◌≡◌, ◌<◌, List, [], true};
 ghost use Rattle.wm_base.specs.declared.instant.TheConstants.{END};
 ghost use Rattle.wm_plan.specs.Idle.{StaysAt};
 ghost use Rattle.wm_plan.specs.Planning.{DoesTimed};

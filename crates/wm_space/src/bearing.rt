@@ -1,5 +1,5 @@
 //! CreateWorkspace.
-ghost use Rattle.std.specs.Prelude.{◌≡◌, ◌<◌, ◌+◌, nat_lt, is_some, ℕ, List, true, false, IfOk};
+ghost use Rattle.std.specs.Prelude.{◌≡◌, ◌<◌, nat_lt, is_some, ℕ, List, true, false, IfOk};
 ghost use Rattle.wm_base.specs.declared.instant.TheConstants.{END};
 ghost use Rattle.wm_plan.specs.Forks.{AreForks};
 ghost use Rattle.wm_plan.specs.Idle.{Idles};

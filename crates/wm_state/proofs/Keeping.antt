@@ -2,7 +2,7 @@
 -- are_savepoints-kept, are_rows-kept, are_pieces-kept and are_hists-kept, and each for one record (is_savepoint-kept and so on).
 -- KeepTables, KeepSpaces, KeepVersions and KeepRows say so of each kind.
 use Rattle.std.proofs.Common.{◌≡◌, ℕ, ◌+◌, ◌==◌, nat_lt, nat_le, Bool, true, false, ◌&&◌, ◌||◌, if◌then◌else◌, List, [], ◌∷◌, ◌++◌, Option, Some, None, is_some, refl, sym, ap, ◌∙◌, ⊎_elim, arith}
-use Rattle.std.proofs.lemmas.Bool.{and_from, and_parts, le-leb, true≢false}
+use Rattle.std.proofs.lemmas.Bool.{and_from, and_parts, true≢false}
 use Rattle.std.specs.List.{list_all}
 use Rattle.std.specs.Option.{option_and_then, option_map_or}
 use Rattle.wm_base.proofs.Plain.{nat_le-itself}

@@ -1,11 +1,10 @@
 -- Tests over lists that gain an element, lose some, or have one in the place of another.
 use Rattle.std.proofs.Common.{◌≡◌, Bool, true, false, not, ◌&&◌, ◌||◌, cond, List, [], ◌∷◌, ◌++◌, Option, Some, None, is_some, refl, sym, ap, ◌∙◌, ◌⊎◌, inl, inr, ⊎_elim}
-use Rattle.std.proofs.lemmas.Bool.{and_from, and_parts, not-true, or_parts, true≢false}
+use Rattle.std.proofs.lemmas.Bool.{and_from, and_parts, not-true, or_parts}
 use Rattle.std.proofs.lemmas.Option.{same_Some}
 use Rattle.std.specs.List.{list_all, list_any, filter, find}
 use Rattle.std.specs.Option.{option_map_or}
 use Rattle.wm_graph.specs.Rules.{differ}
-use Rattle.wm_state.proofs.Mapped.{found-fails}
 
 -- ---- all of a list
 

@@ -1,7 +1,7 @@
 //! Statements, read token by token.
-ghost use Rattle.std.specs.Prelude.{◌≡◌, ℕ, ◌≤◌, ◌∷◌, [], List, IfOk};
+ghost use Rattle.std.specs.Prelude.{◌≡◌, ℕ, ◌∷◌, [], List};
 ghost use Rattle.wm_syntax.specs.Trees.{Expr as ExprTree, Statement as StatementTree};
-ghost use Rattle.wm_syntax.specs.Views.{expr_view, exprs_view, set_view, sets_view, statement_view, line_view};
+ghost use Rattle.wm_syntax.specs.Views.{expr_view, exprs_view, set_view, sets_view, statement_view};
 ghost use Rattle.wm_grammar.specs.Sorts as sorts;
 ghost use Rattle.wm_grammar.specs.Reading.{optional_at};
 ghost use Rattle.wm_grammar.specs.Symbols.{next_in};
@@ -9,7 +9,7 @@ ghost use Rattle.wm_grammar.specs.OperandReaders.{plain_name_at, name_at};
 ghost use Rattle.wm_grammar.specs.ExpressionReaders.{expr_at};
 ghost use Rattle.wm_grammar.specs.QueryReaders.{next_at, list_of_at};
 ghost use Rattle.wm_grammar.specs.Statements.{also, is_key, keyed_by};
-ghost use Rattle.wm_grammar.specs.StatementReaders.{no_scale_at, size_at, precision_at, column_type_at, primary_key_at, never_null_at, column_option_at, option_sorts, column_options_at, column_item_at, key_list_at, key_columns_at, create_item_at, next_item_at, create_items_at, create_at, name_list_at, row_at, named_row_at, insert_at, set_at, update_at, delete_at};
+ghost use Rattle.wm_grammar.specs.StatementReaders.{precision_at, column_type_at, primary_key_at, never_null_at, column_option_at, option_sorts, column_options_at, column_item_at, key_list_at, key_columns_at, create_item_at, next_item_at, create_items_at, create_at, name_list_at, row_at, named_row_at, insert_at, set_at, update_at, delete_at};
 ghost use Rattle.wm_terms.specs.Telling.{Told};
 
 use std::alloc::Global;

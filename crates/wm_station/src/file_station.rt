@@ -1,5 +1,5 @@
 //! A station over a real file and a writer.
-ghost use Rattle.std.specs.Prelude.{◌≡◌, ◌<◌, ◌≤◌, ◌↔◌, [], length, IsOk, IfOk, IsErrOf};
+ghost use Rattle.std.specs.Prelude.{◌≡◌, ◌<◌, ◌≤◌, [], length, IfOk, IsErrOf};
 ghost use Rattle.wm_station.specs.History.{Begin};
 ghost use Rattle.wm_station.specs.Cause.{DiskCause};
 

@@ -1,5 +1,5 @@
 //! A station in memory whose calls can be made to fail.
-ghost use Rattle.std.specs.Prelude.{◌≡◌, ◌+◌, ◌-◌, ◌^◌, ◌<◌, ◌≤◌, ◌↔◌, min, length, take, IfOk, OnOk, OnErr, IsErrOf};
+ghost use Rattle.std.specs.Prelude.{◌≡◌, ◌+◌, ◌-◌, ◌<◌, ◌≤◌, ◌↔◌, min, length, take, IfOk, OnOk, OnErr, IsErrOf};
 ghost use Rattle.wm_station.specs.History.{Begin, Synced, Said, now, stretch, DidWrite, MayHaveWritten};
 ghost use Rattle.wm_station.specs.Cause.{DiskCause, SayCause, Rises};
 ghost use Rattle.wm_station.specs.Planned.{FailsNext, faults_of};

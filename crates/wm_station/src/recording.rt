@@ -1,7 +1,7 @@
 //! A file in memory, and the record of all that was done to it and said.
 ghost use Rattle.std.specs.Prelude.{◌≡◌, ◌+◌, ◌<◌, ◌≤◌, [], ◌∷◌, ◌++◌, length, IfOk, OnOk, OnErr, is_ok, if◌then◌else◌};
 ghost use Rattle.wm_station.specs.History.{History, now, said, stretch, Leaves, Begin, Wrote, Synced, Said};
-ghost use Rattle.wm_station.specs.Replay.{over, replay, after};
+ghost use Rattle.wm_station.specs.Replay.{over, replay};
 ghost use Rattle.wm_station.specs.declared.recording.Call.TheVariants.{Sync};
 
 use crate::Tear;

@@ -1,5 +1,5 @@
 //! The disk and the answers in one device, so that a crash leaves a file together with the bytes said.
-ghost use Rattle.std.specs.Prelude.{◌≡◌, ℕ, ◌+◌, ◌<◌, ◌≤◌, min, List, length, IfOk, OnOk, OnErr, IsErrOf};
+ghost use Rattle.std.specs.Prelude.{◌≡◌, ℕ, ◌+◌, ◌<◌, ◌≤◌, min, length, IfOk, OnOk, OnErr, IsErrOf};
 ghost use Rattle.wm_station.specs.History.{History, now, stretch, DidWrite, MayHaveWritten, MayHaveSaid, Synced, Said};
 ghost use Rattle.wm_station.specs.Cause.{DiskCause, SayCause, Rises};
 

@@ -1,5 +1,5 @@
 //! Files that a crash may leave.
-ghost use Rattle.std.specs.Prelude.{◌≡◌, ◌+◌, ◌≤◌, length, IfOk, OnOk};
+ghost use Rattle.std.specs.Prelude.{◌≡◌, ◌+◌, ◌≤◌, length, OnOk};
 ghost use Rattle.wm_station.specs.History.{History, now, Leaves, Torn};
 ghost use Rattle.wm_station.specs.Replay.{after};
 

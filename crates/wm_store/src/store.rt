@@ -1,5 +1,5 @@
 //! A store: its records, and how they change.
-ghost use Rattle.std.specs.Prelude.{◌≡◌, ℕ, ◌+◌, ◌*◌, ◌/◌, ◌<◌, ◌≤◌, ◌⊎◌, max, true, false, List, length, is_some, Ok, Err, IfOk, IfErr, OnOk, IsErrOf};
+ghost use Rattle.std.specs.Prelude.{◌≡◌, ℕ, ◌+◌, ◌*◌, ◌<◌, ◌≤◌, ◌⊎◌, max, true, false, List, length, is_some, Ok, Err, IfOk, IfErr, OnOk, IsErrOf};
 ghost use Rattle.wm_base.specs.declared.fault.MakeFault.TheVariants as making;
 ghost use Rattle.wm_base.specs.declared.fault.OpenFault.TheVariants as opening;
 ghost use Rattle.wm_base.specs.declared.fault.StoreFault.TheVariants as storing;
@@ -17,7 +17,7 @@ ghost use Rattle.wm_heap.specs.Places.{place_of};
 ghost use Rattle.wm_store.specs.Answers.{SaysOf};
 ghost use Rattle.wm_store.specs.Few.{AddsLate};
 ghost use Rattle.wm_store.specs.Fresh.{fresh_records};
-ghost use Rattle.wm_store.specs.Opened.{opened, Held, SaysAs, HoldsAs};
+ghost use Rattle.wm_store.specs.Opened.{Held, SaysAs, HoldsAs};
 ghost use Rattle.wm_store.specs.Spelled.{FitPages, blobs_of};
 
 use crate::blobs::spell_changes;

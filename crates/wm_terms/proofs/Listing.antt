@@ -1,5 +1,5 @@
 -- A list with commas, read by a loop.
-use Rattle.std.proofs.Common.{◌≡◌, ℕ, ◌<◌, Bool, true, false, refl, List, [], ◌∷◌, ◌++◌, length, sym, ap, ◌∙◌, map, Result, Ok}
+use Rattle.std.proofs.Common.{◌≡◌, ℕ, ◌<◌, true, false, refl, List, [], ◌∷◌, ◌++◌, length, sym, ap, ◌∙◌, map, Result, Ok}
 use Rattle.std.proofs.lemmas.List.{map_push}
 use Rattle.wm_grammar.specs.Symbols.{Symbol, next_in}
 use Rattle.wm_grammar.specs.Reading.{Reader}

@@ -1,4 +1,4 @@
-ghost use Rattle.std.specs.Prelude.{◌≡◌, ◌≤◌, ◌<◌, ◌^◌, length, IfOk, IfSome, Some, None, bytes_eq, if◌then◌else◌, nat_le, ◌&&◌, ◌==◌};
+ghost use Rattle.std.specs.Prelude.{◌≡◌, ◌≤◌, ◌<◌, IfOk, IfSome, Some, None, bytes_eq, if◌then◌else◌, nat_le, ◌&&◌, ◌==◌};
 ghost use Rattle.std.specs.List.{list_all};
 ghost use Rattle.wm_grammar.specs.Meaning.{number_of, greatest, between, unquoted, instant_for, mask_of, operator_of};
 

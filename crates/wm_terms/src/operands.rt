@@ -1,4 +1,3 @@
-ghost use Rattle.std.specs.Prelude.{◌≡◌, List};
 ghost use Rattle.wm_grammar.specs.OperandReaders.{plain_name_at, name_at, instant_at, until_changed_at, period_end_at, period_at, plain_constant_at, constant_at, suffix_at, column_of_at, column_after_at, other_column_at, column_at, per_at, operator_test_at, operand_after_at, operand_at, plain_operand_at};
 ghost use Rattle.wm_terms.specs.Telling.{Told};
 

@@ -1,8 +1,6 @@
 //! What UPDATE and DELETE are refused for before they read a row.
-ghost use Rattle.std.specs.Prelude.{◌≡◌, [], bytes_eq, slice_get, true, false, None, IfOk, option_copied};
+ghost use Rattle.std.specs.Prelude.{◌≡◌, [], bytes_eq, true, false, None, IfOk, option_copied};
 ghost use Rattle.std.specs.List.{list_any};
-ghost use Rattle.std.specs.Option.{option_map_or};
-ghost use Rattle.wm_spec.specs.declared.record.column.TableColumn.{TableColumn as OneColumn};
 ghost use Rattle.wm_syntax.specs.Trees.{Set as SetTree};
 ghost use Rattle.wm_syntax.specs.Views.{filter_view, set_view, sets_view};
 ghost use Rattle.wm_typing.specs.Changing.{is_named_at as names_at, may_set, unknown_in_set, unknown_in_sets, may_stand, mistyped_in_set, mistyped_in_sets, is_key, key_set, lacking_where, lacking_anywhere, update_fault, update_fault_in, delete_fault, delete_fault_in};

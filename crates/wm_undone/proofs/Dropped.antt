@@ -1,6 +1,5 @@
 -- Ids that a batch drops: they differ from those that it puts, are below new ones, and nothing comes by them.
 use Rattle.std.proofs.Common.{◌≡◌, ℕ, true, false, List, [], ◌∷◌, ◌++◌, map, refl}
-use Rattle.std.proofs.lemmas.Bool.{and_from, and_parts, lt-ltb, true≢false}
 use Rattle.std.specs.List.{list_all}
 use Rattle.wm_spec.specs.Records.{ids_differ}
 use Rattle.wm_spec.specs.declared.record.batch.Change.{Change}

@@ -1,5 +1,5 @@
 //! The rows of views.
-ghost use Rattle.std.specs.Prelude.{◌≡◌, ◌<◌, ◌≤◌, ◌++◌, ◌∷◌, [], codes, is_some, IfOk, OnOk, option_copied};
+ghost use Rattle.std.specs.Prelude.{◌≡◌, ◌<◌, ◌≤◌, ◌++◌, ◌∷◌, [], is_some, IfOk, OnOk, option_copied};
 ghost use Rattle.wm_base.specs.declared.instant.TheConstants.{END};
 ghost use Rattle.wm_view_rows.specs.Given.{event_at, side_rows};
 ghost use Rattle.wm_view_rows.specs.Rows.{conflict_row, conflict_rows, deleted_word, history_row, key_value, key_values, kind_word, shown_values, side_values, time_value};

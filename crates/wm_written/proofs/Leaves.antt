@@ -3,7 +3,7 @@ use Rattle.std.proofs.Common.{◌≡◌, ℕ, ◌==◌, nat_lt, Bool, true, fals
 use Rattle.std.proofs.lemmas.Bool.{and_parts, or_parts, true≢false}
 use Rattle.std.specs.List.{list_any}
 use Rattle.std.specs.Option.{option_map_or}
-use Rattle.wm_base.proofs.Plain.{and_last, less_apart, nat_lt-apart}
+use Rattle.wm_base.proofs.Plain.{less_apart, nat_lt-apart}
 use Rattle.wm_graph.specs.Parts.{Parts, space_of, version_of}
 use Rattle.wm_graph.specs.Rules.{keep_rules, is_version, stands_under}
 use Rattle.wm_spec.specs.declared.record.counters.Counters.{Counters}
@@ -17,7 +17,6 @@ use Rattle.wm_state.proofs.Tests.{none_if}
 use Rattle.wm_state.proofs.Apart.{Ruled, ruled, ruled_versions, newest_record}
 use Rattle.wm_state.proofs.Named.{saved_there, saved_base_there, bases_there, version_there, version_below}
 use Rattle.wm_state.proofs.Growing.{MayFork, forked, forked_of, found-below, below-next, same_counters}
-use Rattle.wm_state.proofs.Mapped.{found-fails}
 
 IsLeaf-grow : (version : ℕ) (x : Node) (ns : List Node) → (x.parent == version) ≡ false → IsLeaf version ns → IsLeaf version (grow x ns)
 IsLeaf-grow version x [] apart leaf = (apart, tt)

@@ -13,7 +13,6 @@ use Rattle.wm_base.specs.declared.value.Value.{Value}
 use Rattle.wm_graph.specs.Rules.{are_cells, as_drawn, collide, differ, is_given, is_key_of, is_touch, is_trace, meet}
 use Rattle.wm_spec.specs.Lists.{Entry, reach, touched}
 use Rattle.wm_spec.proofs.Reaching.{reach-append}
-use Rattle.wm_spec.specs.declared.record.Record.TheVariants as records
 use Rattle.wm_spec.specs.declared.record.cell_range.CellRange.{CellRange}
 use Rattle.wm_spec.specs.declared.record.piece.PieceRecord.{PieceRecord}
 use Rattle.wm_spec.specs.declared.record.space.Space.{Space}

@@ -1,8 +1,7 @@
-use Rattle.std.proofs.Common.{◌≡◌, ℕ, List, length, sym, ap, ◌∙◌, arith, Bool, true, false}
+use Rattle.std.proofs.Common.{◌≡◌, ℕ, length, sym, ap, ◌∙◌, arith, true, false}
 use Rattle.std.specs.Prelude.{◌==◌}
 use Rattle.wm_syntax.specs.Views.{cond_view}
 use Rattle.wm_grammar.specs.Meaning.{unquoted}
-use Rattle.wm_grammar.specs.Next.{next_text}
 use Rattle.wm_terms.proofs.Texts.{unquoted_short}
 use Rattle.wm_call_lines.proofs.Clauses.{clause_empty, clause_full, clause_bad, at_advanced, at_text, at_fault, read_same}
 use Rattle.wm_call_lines.proofs.calls.clause.Goals as goal

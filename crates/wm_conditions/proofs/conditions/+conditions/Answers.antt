@@ -1,4 +1,4 @@
-use Rattle.std.proofs.Common.{◌≡◌, ℕ, List, [], ◌∷◌, sym, ap, refl, ◌∙◌}
+use Rattle.std.proofs.Common.{[], ◌∷◌, sym, ap, refl}
 use Rattle.wm_syntax.specs.Trees.{Cond}
 use Rattle.wm_syntax.specs.Views.{cond_view}
 use Rattle.wm_grammar.specs.Sorts as sorts
@@ -6,7 +6,7 @@ use Rattle.wm_grammar.specs.Expressions.{alls, anys}
 use Rattle.wm_grammar.specs.ExpressionReaders.{and_at, conj_at, or_at, cond_of_at, negation_at}
 use Rattle.wm_grammar.proofs.Laws.{mark_exact, then_exact}
 use Rattle.wm_grammar.proofs.ExpressionLaws.{negation_exact, conj_exact}
-use Rattle.wm_grammar.proofs.Loops.{Going, going_on, takes_one}
+use Rattle.wm_grammar.proofs.Loops.{going_on, takes_one}
 use Rattle.wm_conditions.proofs.conditions.+conditions.Goals as goal
 
 pub conj-items-smaller : goal.conj-items-smaller

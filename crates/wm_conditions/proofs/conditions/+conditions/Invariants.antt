@@ -1,4 +1,4 @@
-use Rattle.std.proofs.Common.{ℕ, ◌+◌, ◌*◌, length, [], ◌∷◌}
+use Rattle.std.proofs.Common.{◌+◌, ◌*◌, length, [], ◌∷◌}
 use Rattle.wm_syntax.specs.Views.{cond_view}
 use Rattle.wm_grammar.specs.Sorts as sorts
 use Rattle.wm_grammar.specs.Expressions.{alls, anys}

@@ -1,4 +1,4 @@
-use Rattle.std.proofs.Common.{length, [], ◌∷◌, ◌++◌, List}
+use Rattle.std.proofs.Common.{length, [], ◌∷◌, ◌++◌}
 use Rattle.wm_grammar.specs.Sorts as sorts
 use Rattle.wm_grammar.specs.ExpressionReaders.{next_constant_at, constant_list_at}
 use Rattle.wm_grammar.proofs.Loops.{Going}

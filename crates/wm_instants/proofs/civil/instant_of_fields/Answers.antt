@@ -1,4 +1,4 @@
-use Rattle.std.proofs.Common.{arith, ◌∙◌, ap, rules, refl, sym, ◌≡◌, true, false, to_z, w8, w16}
+use Rattle.std.proofs.Common.{arith, refl, sym, ◌≡◌, true, false, to_z, w8, w16}
 use Rattle.std.proofs.lemmas.Grind.{common_steps}
 use Rattle.wm_instants.specs.declared.fields.Day.{Day}
 use Rattle.wm_instants.specs.declared.fields.Clock.{Clock}

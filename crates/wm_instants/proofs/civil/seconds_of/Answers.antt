@@ -1,5 +1,4 @@
-use Rattle.std.proofs.Common.{arith, ◌∙◌, ap, rules}
-use Rattle.std.proofs.lemmas.Grind.{common_steps}
+use Rattle.std.proofs.Common.{arith, rules}
 use Rattle.jiff_core.proofs.SignedLemmas.{signed_casts}
 use Rattle.wm_instants.proofs.CivilLemmas.{seconds_between}
 use Rattle.wm_instants.proofs.civil.seconds_of.Goals as goal

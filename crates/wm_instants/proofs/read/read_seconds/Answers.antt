@@ -1,4 +1,4 @@
-use Rattle.std.proofs.Common.{arith, ◌∙◌, ap, rules, refl, sym, ◌≡◌, length}
+use Rattle.std.proofs.Common.{arith, ◌∙◌, ap, sym, ◌≡◌, length}
 use Rattle.std.proofs.lemmas.Grind.{common_steps}
 use Rattle.std.proofs.lemmas.List.{take_rest}
 use Rattle.wm_instants.specs.Fields.{clock_in}

@@ -1,6 +1,5 @@
-use Rattle.std.proofs.Common.{arith, ◌∙◌, ap, rules, refl, sym, ◌≡◌, ◌*◌, true, false, pos}
+use Rattle.std.proofs.Common.{◌∙◌, ap, ◌≡◌, ◌*◌, true, false, pos}
 use Rattle.jiff_core.specs.Time.{time_seconds}
-use Rattle.jiff_core.proofs.SignedLemmas.{signed_arith}
 use Rattle.wm_instants.specs.Texts.{second_of_day}
 use Rattle.wm_instants.proofs.TextLemmas.{DateAt, shown_at, has_moment}
 use Rattle.wm_instants.proofs.write.datetime_at.Goals as goal

@@ -1,5 +1,4 @@
-use Rattle.std.proofs.Common.{arith, ◌∙◌, ap, sym, ◌++◌}
-use Rattle.wm_instants.specs.Texts.{instant_text}
+use Rattle.std.proofs.Common.{arith, ◌∙◌}
 use Rattle.wm_instants.proofs.ReadBack.{reads_back}
 use Rattle.wm_instants.proofs.TextLemmas.{text_at, text_end}
 use Rattle.wm_instants.proofs.write.write_instant.Goals as goal

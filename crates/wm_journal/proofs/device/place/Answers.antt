@@ -1,4 +1,4 @@
-use Rattle.std.proofs.Common.{◌≡◌, ℕ, ◌+◌, ◌*◌, ◌∷◌, List, drop, sym, ◌∙◌, ap, subst, arith, inr}
+use Rattle.std.proofs.Common.{◌≡◌, ℕ, ◌+◌, ◌*◌, ◌∷◌, List, drop, sym, ◌∙◌, ap, subst, inr}
 use Rattle.std.proofs.lemmas.List.{drop_more}
 use Rattle.wm_page.specs.Batch.{entries}
 use Rattle.wm_page.specs.declared.write.PageWrite.{PageWrite}

@@ -1,4 +1,4 @@
-use Rattle.std.proofs.Common.{sym, ap, ◌∙◌, Bool, Option, ℕ}
+use Rattle.std.proofs.Common.{sym, ap, ◌∙◌, Option, ℕ}
 use Rattle.std.specs.Prelude.{is_some}
 use Rattle.wm_grammar.specs.Literals.{is_bad}
 use Rattle.wm_literals.specs.Places.{before}

@@ -1,4 +1,4 @@
-use Rattle.std.proofs.Common.{◌≡◌, ◌∙◌, subst, sym, ap, drop, map, ℕ}
+use Rattle.std.proofs.Common.{◌≡◌, ◌∙◌, subst, sym, drop, map, ℕ}
 use Rattle.wm_grammar.specs.Symbols.{has}
 use Rattle.wm_grammar.specs.Sorts.{code_of}
 use Rattle.wm_terms.proofs.Peeking.{found_among, none_among}
