@@ -4,7 +4,7 @@
 use std::io::ErrorKind;
 use std::process::ExitCode;
 use std::{env, io};
-use wm_base::Damage;
+use wm_faults::Damage;
 use wm_host::{Ended, Place, run};
 use wm_station::{FileStation, StreamSource};
 use wm_words::{Command, command_of};

@@ -1,15 +1,12 @@
 //! The small types on which every other crate stands: texts, instants, periods, values, keys and rows,
-//! the refusals of a line and the faults of a call.
+//! and the refusals of a line.
 #![tactic(auto)]
 
 pub mod bytes;
-pub mod columns;
-pub mod fault;
 pub mod instant;
 pub mod key;
 mod key_order;
 pub mod kind;
-pub mod listing;
 pub mod memory;
 pub mod period;
 pub mod refusal;
@@ -22,12 +19,9 @@ mod value_order;
 pub mod values;
 
 pub use bytes::Bytes;
-pub use columns::{Column, Columns};
-pub use fault::{Damage, MakeFault, OpenFault, StoreFault};
 pub use instant::{END, Instant};
 pub use key::Key;
 pub use kind::Kind;
-pub use listing::{Listing, Listings, RowList};
 pub use memory::Memory;
 pub use period::Period;
 pub use refusal::{CellRefusal, FormRefusal, LimitRefusal, Refusal, SpaceRefusal};

@@ -9,7 +9,7 @@ use Rattle.std.specs.declared.cmp.Ordering.{Ordering}
 use Rattle.std.specs.declared.cmp.Ordering.TheVariants.{Less, Equal, Greater}
 use Rattle.wm_base.specs.Orders.{value_order-equal}
 use Rattle.wm_syntax.specs.Trees.{Cond, Or, And, Not, Compare, IsNull, OneOf, Between}
-use Rattle.wm_base.specs.declared.columns.Column.{Column}
+use Rattle.wm_listing.specs.declared.columns.Column.{Column}
 use Rattle.wm_base.specs.declared.memory.Memory.{Memory}
 use Rattle.wm_syntax.specs.declared.column.Col.{Col}
 use Rattle.wm_syntax.specs.declared.column.Suffix.{Suffix}

@@ -2,7 +2,7 @@
 use Rattle.std.specs.Prelude.{ℕ, ◌≡◌, Bool, true, false, ◌==◌, List, Option, Some, None, if◌then◌else◌, ◌≤◌, [], ◌∷◌, length}
 use Rattle.std.specs.List.{position}
 use Rattle.std.specs.Option.{option_or}
-use Rattle.wm_base.specs.declared.columns.Column.{Column}
+use Rattle.wm_listing.specs.declared.columns.Column.{Column}
 use Rattle.wm_base.specs.declared.row.Row.{Row}
 use Rattle.wm_syntax.specs.declared.column.Col.{Col}
 use Rattle.wm_syntax.specs.declared.column.Suffix.{Suffix}

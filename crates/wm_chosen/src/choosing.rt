@@ -16,10 +16,11 @@ ghost use Rattle.wm_spec.specs.declared.record.table.Table.{Table as TableOf};
 
 use crate::keyed::key_asked;
 use std::alloc::Global;
-use wm_base::{Columns, Key, Memory, Period, Row, RowList, Truth};
+use wm_base::{Key, Memory, Period, Row, Truth};
 use wm_dml::chosen;
 use wm_expr::truth;
 use wm_image::Image;
+use wm_listing::{Columns, RowList};
 use wm_rowtest::{Judge, RowTest};
 use wm_spec::record::Table;
 use wm_syntax::cond::Cond;

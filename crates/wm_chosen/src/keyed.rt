@@ -10,8 +10,9 @@ ghost use Rattle.wm_joining.specs.Kept.{is_kept};
 ghost use Rattle.wm_spec.specs.Operands.{constant_value};
 
 use std::alloc::Global;
-use wm_base::{Column, Columns, Key, Memory, Value};
+use wm_base::{Key, Memory, Value};
 use wm_expr::names::place_of;
+use wm_listing::{Column, Columns};
 use wm_spec::record::Table;
 use wm_syntax::column::{Col, Suffix};
 use wm_syntax::cond::{Cmp, Cond};

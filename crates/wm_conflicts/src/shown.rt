@@ -9,8 +9,9 @@ ghost use Rattle.wm_telling.specs.Telling.{AreFamily};
 ghost use Rattle.wm_view_rows.specs.Conflicts.{IsConflictView, values_with};
 
 use std::alloc::Global;
-use wm_base::{Memory, RowList, Values};
+use wm_base::{Memory, Values};
 use wm_image::Image;
+use wm_listing::RowList;
 use wm_pending::clash::{Conflict, conflicts};
 use wm_pending::own::own_pieces;
 use wm_spec::record::{Space, Table};

@@ -8,7 +8,8 @@ ghost use Rattle.wm_typing.specs.Types.{is_filter_typed, mistyped_in_filter};
 
 use std::alloc::Global;
 use wm_base::values::copies_of;
-use wm_base::{Column, Columns, Key, Memory, Name, Row, Value, Values};
+use wm_base::{Key, Memory, Name, Row, Value, Values};
+use wm_listing::{Column, Columns};
 use wm_spec::record::Table;
 use wm_syntax::cond::Cond;
 use wm_typing::columns::{columns_of_table, valid_column};

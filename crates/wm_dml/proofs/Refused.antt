@@ -4,7 +4,7 @@ use Rattle.std.proofs.lemmas.Bool.{or_parts}
 use Rattle.std.specs.Prelude.{Option, Some, None, ◌&&◌, ◌||◌, ◌==◌, not}
 use Rattle.std.specs.Option.{option_or}
 use Rattle.wm_base.proofs.Plain.{option_or_parts}
-use Rattle.wm_base.specs.declared.columns.Column.{Column}
+use Rattle.wm_listing.specs.declared.columns.Column.{Column}
 use Rattle.wm_syntax.specs.Trees.{Cond, Set, Expr, Of, Neg, Add, Sub, Mul}
 use Rattle.wm_spec.specs.Operands.{kind_of}
 use Rattle.wm_spec.specs.declared.record.table.Table.{Table}

@@ -3,7 +3,7 @@
 use Rattle.std.specs.Prelude.{ℕ, Bool, true, ◌&&◌, ◌∷◌, if◌then◌else◌, List, [], length, map, filter, take, slice_get, unwrap_or, bytes_eq, Option, Some, None, option_map}
 use Rattle.std.specs.List.{find, list_all, list_any}
 use Rattle.std.specs.Option.{option_or, option_and_then}
-use Rattle.wm_base.specs.declared.columns.Column.{Column}
+use Rattle.wm_listing.specs.declared.columns.Column.{Column}
 use Rattle.wm_base.specs.declared.kind.Kind.TheVariants.{Insert, Update, Delete}
 use Rattle.wm_base.specs.declared.refusal.Refusal.{Refusal}
 use Rattle.wm_base.specs.declared.row.Row.{Row}

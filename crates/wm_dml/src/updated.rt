@@ -11,8 +11,9 @@ ghost use Rattle.wm_making.specs.Rows.{stored as as_stored};
 ghost use Rattle.wm_dml.specs.Changing.{own_columns, sets_period as period_set, set_value as value_set, set_values as values_set, updated_rows as rows_of};
 
 use std::alloc::Global;
-use wm_base::{Columns, Row, Value, Values};
+use wm_base::{Row, Value, Values};
 use wm_expr::{ValueFault, value};
+use wm_listing::Columns;
 use wm_making::stored;
 use wm_spec::record::{Table, TableColumn};
 use wm_syntax::statement::Set;

@@ -1,7 +1,7 @@
 -- The cause of a fault of the store is that of the line.
 use Rattle.std.proofs.Common.{ℕ, refl, Err}
-use Rattle.wm_base.specs.declared.fault.StoreFault.{StoreFault}
-use Rattle.wm_base.specs.declared.fault.StoreFault.TheVariants.{Disk, Changed, Memory}
+use Rattle.wm_faults.specs.declared.fault.StoreFault.{StoreFault}
+use Rattle.wm_faults.specs.declared.fault.StoreFault.TheVariants.{Disk, Changed, Memory}
 use Rattle.wm_page.specs.Cause.{StoreCause}
 use Rattle.wm_engine.specs.Cause.{LineCause}
 use Rattle.wm_engine.specs.Working.{fault_of}

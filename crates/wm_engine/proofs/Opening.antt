@@ -3,9 +3,9 @@ use Rattle.std.proofs.Common.{◌≡◌, ℕ, ◌<◌, ◌&&◌, nat_lt, nat_le,
 use Rattle.std.proofs.lemmas.Bool.Decides.{nat_tests}
 use Rattle.std.proofs.lemmas.List.Elements.{All-nil}
 use Rattle.std.proofs.lemmas.Bool.{and_parts}
-use Rattle.wm_base.specs.declared.fault.Damage.{Damage}
-use Rattle.wm_base.specs.declared.fault.Damage.TheVariants.{Graph}
-use Rattle.wm_base.specs.declared.fault.OpenFault.TheVariants.{Damaged}
+use Rattle.wm_faults.specs.declared.fault.Damage.{Damage}
+use Rattle.wm_faults.specs.declared.fault.Damage.TheVariants.{Graph}
+use Rattle.wm_faults.specs.declared.fault.OpenFault.TheVariants.{Damaged}
 use Rattle.wm_base.specs.declared.instant.TheConstants.{END}
 use Rattle.wm_decided.specs.Staged.{AreStaged, IsStagedResolve}
 use Rattle.wm_graph.specs.Parts.{Parts, parts_of}

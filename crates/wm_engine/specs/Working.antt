@@ -1,11 +1,11 @@
 -- What an engine and a file stand for.
 use Rattle.std.specs.Prelude.{◌≡◌, ℕ, true, false, List, [], Result, Ok, Err}
-use Rattle.wm_base.specs.declared.fault.Damage.{Damage}
-use Rattle.wm_base.specs.declared.fault.Damage.TheVariants.{Graph}
-use Rattle.wm_base.specs.declared.fault.OpenFault.{OpenFault}
-use Rattle.wm_base.specs.declared.fault.OpenFault.TheVariants.{Disk, NotStore, Damaged, Memory}
-use Rattle.wm_base.specs.declared.fault.StoreFault.{StoreFault}
-use Rattle.wm_base.specs.declared.fault.StoreFault.TheVariants as storing
+use Rattle.wm_faults.specs.declared.fault.Damage.{Damage}
+use Rattle.wm_faults.specs.declared.fault.Damage.TheVariants.{Graph}
+use Rattle.wm_faults.specs.declared.fault.OpenFault.{OpenFault}
+use Rattle.wm_faults.specs.declared.fault.OpenFault.TheVariants.{Disk, NotStore, Damaged, Memory}
+use Rattle.wm_faults.specs.declared.fault.StoreFault.{StoreFault}
+use Rattle.wm_faults.specs.declared.fault.StoreFault.TheVariants as storing
 use Rattle.wm_decided.specs.Staged.{AreStaged}
 use Rattle.wm_graph.specs.Parts.{parts_of}
 use Rattle.wm_graph.specs.Rules.{keep_rules}

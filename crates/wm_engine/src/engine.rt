@@ -1,7 +1,7 @@
 //! The state between two lines, and what a line does to it.
 ghost use Rattle.std.specs.Prelude.{◌≡◌, ℕ, ◌<◌, ◌≤◌, ◌⊎◌, ◌+◌, ◌*◌, List, Some, true, false, OnOk, OnSome, IfOk, IfErr, IfSome, IsErrOf};
-ghost use Rattle.wm_base.specs.declared.fault.MakeFault.TheVariants as making;
-ghost use Rattle.wm_base.specs.declared.fault.OpenFault.TheVariants as opening;
+ghost use Rattle.wm_faults.specs.declared.fault.MakeFault.TheVariants as making;
+ghost use Rattle.wm_faults.specs.declared.fault.OpenFault.TheVariants as opening;
 ghost use Rattle.wm_base.specs.declared.instant.TheConstants.{END};
 ghost use Rattle.wm_engine.specs.Cause.{LineCause};
 ghost use Rattle.wm_engine.specs.ForkLines.{is_fork};
@@ -34,7 +34,8 @@ use crate::keep::run_line;
 use crate::reply::Reply;
 use std::alloc::Global;
 use std::marker::Model;
-use wm_base::{Damage, Instant, MakeFault, OpenFault};
+use wm_base::Instant;
+use wm_faults::{Damage, MakeFault, OpenFault};
 use wm_image::{Image, ImageFault};
 use wm_plan::session::Session;
 use wm_station::Station;

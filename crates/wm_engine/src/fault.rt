@@ -3,8 +3,9 @@ ghost use Rattle.wm_engine.specs.Working.{fault_of};
 ghost use Rattle.wm_engine.specs.declared.fault.LineFault.TheVariants.{Memory as NoMemory};
 
 use thiserror::Error;
-use wm_base::{Memory, StoreFault};
+use wm_base::Memory;
 use wm_draft::DraftFault;
+use wm_faults::StoreFault;
 
 /// Why a line was not answered. The engine is given up then, and the store is opened again.
 #[derive(Clone, Copy, Debug, PartialEq, Eq, Error)]

@@ -6,7 +6,8 @@ ghost use Rattle.wm_spec.specs.Conditions.{truth_of, truth_in as truth_of_values
 
 use crate::compare::{between, is_null, negate_if, one_of, test, truth_if};
 use crate::operands::operand_seen;
-use wm_base::{Column, Columns, Row, Truth, Value};
+use wm_base::{Row, Truth, Value};
+use wm_listing::{Column, Columns};
 use wm_syntax::cond::Cond;
 
 /// How true the condition is for a row of these columns. A comparison with NULL is unknown, and AND, OR and NOT are

@@ -11,7 +11,8 @@ use crate::operands::operand_seen;
 use crate::owned::operand_value;
 use crate::seen::Seen;
 use std::alloc::Global;
-use wm_base::{Column, Columns, Row, Value};
+use wm_base::{Row, Value};
+use wm_listing::{Column, Columns};
 use wm_syntax::expr::Expr;
 
 /// The number that a value is.

@@ -4,8 +4,9 @@ ghost use Rattle.wm_base.specs.Value.{type_place};
 ghost use Rattle.wm_spec.specs.Conditions.{fits as fitting};
 ghost use Rattle.wm_spec.specs.Operands.{fits_columns};
 
-use wm_base::columns::{NUMBER, PERIOD, TEXT, TIME};
-use wm_base::{Column, Columns, Row, Value};
+use wm_base::{Row, Value};
+use wm_listing::columns::{NUMBER, PERIOD, TEXT, TIME};
+use wm_listing::{Column, Columns};
 
 /// The kind of the columns in which the value may stand, 0 for NULL, which may stand in all.
 fn kind_of_value(value: &Value) -> u8

@@ -3,7 +3,8 @@ ghost use Rattle.std.specs.Prelude.{◌≡◌, bytes_eq, option_map, option_copi
 ghost use Rattle.std.specs.List.{position};
 ghost use Rattle.wm_spec.specs.Operands.{is_of_source as of_source, is_named as named, kind_of as kind_named, found_at as found};
 
-use wm_base::{Column, Name, Value};
+use wm_base::{Name, Value};
+use wm_listing::Column;
 
 /// Whether two texts have the same bytes.
 fn are_same(one: &[u8], other: &[u8]) -> bool

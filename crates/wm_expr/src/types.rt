@@ -6,8 +6,8 @@ ghost use Rattle.wm_spec.specs.Conditions.{typed as typed_for, typed_in, may_com
 ghost use Rattle.wm_spec.specs.Operands.{suffixed_kind, constant_kind as kind_of_constant, is_period as period_for, operand_kind as kind_of_operand};
 
 use crate::names::kind_of;
-use wm_base::columns::{NUMBER, PERIOD, TEXT, TIME};
-use wm_base::{Column, Columns};
+use wm_listing::columns::{NUMBER, PERIOD, TEXT, TIME};
+use wm_listing::{Column, Columns};
 use wm_syntax::column::Suffix;
 use wm_syntax::cond::Cond;
 use wm_syntax::constant::Const;

@@ -1,8 +1,8 @@
 -- How the ids of a page get their places, one slot after another.
 use Rattle.std.proofs.Common.{◌≡◌, ℕ, zero, suc, ◌+◌, ◌-◌, ◌<◌, ◌≤◌, ◌⊎◌, inl, inr, max, Bool, true, false, cond, ltb, List, [], ◌∷◌, ◌++◌, length, length-append, get_or, Option, Some, None, is_some, unwrap_or, refl, sym, ap, subst, ◌∙◌, arith}
 use Rattle.std.proofs.lemmas.Bool.{cases_lt, lt-ltb}
-use Rattle.wm_base.specs.declared.fault.OpenFault.{OpenFault}
-use Rattle.wm_base.specs.declared.fault.OpenFault.TheVariants as faults
+use Rattle.wm_faults.specs.declared.fault.OpenFault.{OpenFault}
+use Rattle.wm_faults.specs.declared.fault.OpenFault.TheVariants as faults
 use Rattle.wm_heap.specs.declared.heap.Heap.{Heap}
 use Rattle.wm_heap.specs.Asking.{Finds, FindsTwice}
 use Rattle.wm_heap.specs.Slots.{slots_of}

@@ -3,7 +3,7 @@ use Rattle.std.proofs.Common.{◌≡◌, ℕ, zero, suc, ◌+◌, ◌-◌, ◌<�
 use Rattle.std.specs.Option.{option_or, option_and_then}
 use Rattle.std.proofs.lemmas.Bool.{cases_lt, ltb-true, ltb-false, lt-ltb, le-ltb}
 use Rattle.wm_base.proofs.Plain.{none_since}
-use Rattle.wm_base.specs.declared.fault.Damage.{Damage}
+use Rattle.wm_faults.specs.declared.fault.Damage.{Damage}
 use Rattle.wm_heap.specs.declared.slot.Slot.{Slot}
 use Rattle.wm_heap.specs.Slots.{slots_of}
 use Rattle.wm_heap.specs.Content.{bytes_at, is_twice, slots_upto, slots_in, is_in, damage_on, fault_in}

@@ -2,8 +2,8 @@
 -- fault.
 use Rattle.std.specs.Prelude.{ℕ, zero, suc, ◌+◌, ◌-◌, Bool, true, false, ◌||◌, ◌==◌, nat_lt, if◌then◌else◌, List, [], ◌∷◌, ◌++◌, Option, Some, None, is_some, unwrap_or}
 use Rattle.std.specs.Option.{option_map, option_or}
-use Rattle.wm_base.specs.declared.fault.Damage.{Damage}
-use Rattle.wm_base.specs.declared.fault.Damage.TheVariants as damages
+use Rattle.wm_faults.specs.declared.fault.Damage.{Damage}
+use Rattle.wm_faults.specs.declared.fault.Damage.TheVariants as damages
 use Rattle.wm_heap.specs.declared.slot.Slot.{Slot}
 use Rattle.wm_heap.specs.Slots.{slots_of}
 

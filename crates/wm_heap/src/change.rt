@@ -1,6 +1,6 @@
 //! One change of a heap: what is under an id is put where there is room, or taken out.
 ghost use Rattle.std.specs.Prelude.{◌≡◌, ℕ, ◌+◌, ◌-◌, ◌<◌, ◌≤◌, true, ◌||◌, if◌then◌else◌, ◌++◌, ◌∷◌, [], length, Some, None, is_some, IfOk, OnOk, IsErrOf, IfSome};
-ghost use Rattle.wm_base.specs.declared.fault.StoreFault.TheVariants as faults;
+ghost use Rattle.wm_faults.specs.declared.fault.StoreFault.TheVariants as faults;
 ghost use Rattle.wm_page.specs.Cause.{StoreCause};
 ghost use Rattle.wm_heap.specs.Draft.{HasRoom, Stands, Puts, Goes, Done, IsLean, slots_now, slots_with, slot_size, place_with};
 ghost use Rattle.wm_heap.specs.Places.{place_of, page_count};
@@ -15,7 +15,8 @@ use crate::places::{clear_page_of, page_of as place_in, set_page_of};
 use crate::room::take_roomy;
 use crate::slot::{Slots, slot_of};
 use std::alloc::Global;
-use wm_base::{Bytes, Memory, StoreFault};
+use wm_base::{Bytes, Memory};
+use wm_faults::StoreFault;
 use wm_page::Pages;
 
 impl Heap {

@@ -2,7 +2,7 @@
 ghost use Rattle.std.specs.Prelude.{◌≡◌, ℕ, ◌+◌, ◌<◌, ◌≤◌, ◌++◌, ◌==◌, List, true, false, nat_lt, length, Some, None, is_some, IfOk, IfSome, OnOk, IsErrOf};
 ghost use Rattle.std.specs.BTreeMap.{IsOrdered};
 ghost use Rattle.std.specs.Ordering.{nat_cmp};
-ghost use Rattle.wm_base.specs.declared.fault.StoreFault.TheVariants as faults;
+ghost use Rattle.wm_faults.specs.declared.fault.StoreFault.TheVariants as faults;
 ghost use Rattle.wm_page.specs.Batch.{entries};
 ghost use Rattle.wm_page.specs.Cause.{StoreCause};
 ghost use Rattle.wm_page.specs.Fields.{number_at};
@@ -17,7 +17,8 @@ use crate::stored::stored_slots;
 use crate::writing::write_slots;
 use std::alloc::Global;
 use std::collections::BTreeMap;
-use wm_base::{Bytes, Memory, StoreFault};
+use wm_base::{Bytes, Memory};
+use wm_faults::StoreFault;
 use wm_page::{PAGE_SIZE, PageBatch, PageWrite, PageWrites, Pages, write_number};
 
 /// The slots of the pages that a change puts.

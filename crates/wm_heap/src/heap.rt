@@ -1,6 +1,6 @@
 //! The heap: where each record stands.
 ghost use Rattle.std.specs.Prelude.{◌≡◌, ℕ, ◌+◌, ◌-◌, ◌*◌, ◌<◌, ◌≤◌, true, not, ◌==◌, ◌++◌, filter, length, is_some, IfOk, IsErrOf, OnOk};
-ghost use Rattle.wm_base.specs.declared.fault.StoreFault.TheVariants as faults;
+ghost use Rattle.wm_faults.specs.declared.fault.StoreFault.TheVariants as faults;
 ghost use Rattle.wm_page.specs.Batch.{entries};
 ghost use Rattle.wm_page.specs.Cause.{StoreCause};
 ghost use Rattle.wm_heap.specs.Blobs.{AreBlobs, AreBytes, AreSmall, AreSomeOf, OverBytes, WasRead, alters, change_something, moves, slots_put};
@@ -19,7 +19,8 @@ use crate::slot::Slots;
 use crate::spot::{Spot, Spots};
 use crate::stored::stored_slots;
 use std::alloc::Global;
-use wm_base::{Bytes, Memory, StoreFault};
+use wm_base::{Bytes, Memory};
+use wm_faults::StoreFault;
 use wm_page::{PageBatch, Pages};
 
 /// Where the records of a store stand. Their bytes are read from its pages.

@@ -1,6 +1,6 @@
 //! How a heap is read from the pages of a store, or put on the first of them.
 ghost use Rattle.std.specs.Prelude.{◌≡◌, ℕ, ◌+◌, ◌-◌, ◌<◌, ◌≤◌, Bool, false, nat_lt, if◌then◌else◌, List, [], ◌∷◌, ◌++◌, length, Some, None, is_some, IfOk, OnOk, IfErr, IsErrOf};
-ghost use Rattle.wm_base.specs.declared.fault.OpenFault.TheVariants as faults;
+ghost use Rattle.wm_faults.specs.declared.fault.OpenFault.TheVariants as faults;
 ghost use Rattle.wm_heap.specs.Asking.{Finds, FindsTwice};
 ghost use Rattle.wm_heap.specs.Content.{bytes_at, is_twice, damage_on, fault_of, slots_in};
 ghost use Rattle.wm_heap.specs.Places.{at, ids_of, page_count, place_of, IsHeapOf};
@@ -23,7 +23,8 @@ use crate::room::Room;
 use crate::slot::{Slots, slot_of};
 use crate::writing::write_slots;
 use std::alloc::Global;
-use wm_base::{Damage, Memory, OpenFault};
+use wm_base::Memory;
+use wm_faults::{Damage, OpenFault};
 use wm_page::{PAGE_SIZE, PageBatch, PageWrite, Pages, PagesFailed};
 
 /// The slots of a page that is in use.

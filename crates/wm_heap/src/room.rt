@@ -2,7 +2,7 @@
 ghost use Rattle.std.specs.Prelude.{◌≡◌, ℕ, ◌+◌, ◌-◌, ◌<◌, ◌≤◌, ◌==◌, List, true, false, if◌then◌else◌, length, None, IfOk, OnOk, IfSome, IsErrOf};
 ghost use Rattle.std.specs.BTreeSet.{contains};
 ghost use Rattle.std.specs.Ordering.{nat_cmp};
-ghost use Rattle.wm_base.specs.declared.fault.StoreFault.TheVariants as faults;
+ghost use Rattle.wm_faults.specs.declared.fault.StoreFault.TheVariants as faults;
 ghost use Rattle.wm_page.specs.Cause.{StoreCause};
 ghost use Rattle.wm_heap.specs.Draft.{slots_now, IsThere};
 ghost use Rattle.wm_heap.specs.Places.{at};
@@ -14,7 +14,8 @@ use crate::draft::{Changed, take_fitting};
 use crate::slot::Slots;
 use std::alloc::Global;
 use std::collections::BTreeSet;
-use wm_base::{Memory, StoreFault};
+use wm_base::Memory;
+use wm_faults::StoreFault;
 use wm_page::Pages;
 
 /// A quarter of a page, in bytes.

@@ -1,6 +1,6 @@
 //! The slots of a page, as the store has them.
 ghost use Rattle.std.specs.Prelude.{◌≡◌, ◌<◌, ◌≤◌, true, is_some, IfOk, IsErrOf};
-ghost use Rattle.wm_base.specs.declared.fault.StoreFault.TheVariants as faults;
+ghost use Rattle.wm_faults.specs.declared.fault.StoreFault.TheVariants as faults;
 ghost use Rattle.wm_page.specs.Cause.{StoreCause};
 ghost use Rattle.wm_heap.specs.Content.{slots_in};
 ghost use Rattle.wm_heap.specs.Slots.{slots_of, used};
@@ -8,7 +8,7 @@ ghost use Rattle.wm_heap.specs.Slots.{slots_of, used};
 use crate::reading::read_slots;
 use crate::slot::Slots;
 use std::alloc::Global;
-use wm_base::StoreFault;
+use wm_faults::StoreFault;
 use wm_page::{PAGE_SIZE, Pages, PagesFailed};
 
 /// The slots of a page. Changed is answered where the page is not in use or holds none.

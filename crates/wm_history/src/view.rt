@@ -13,9 +13,10 @@ ghost use Rattle.wm_view_rows.specs.Rows.{Event, history_rows};
 use crate::later::{Later, add_written, last_over, written_at};
 use std::alloc::Global;
 use std::collections::BTreeMap;
-use wm_base::{Memory, Row, RowList, Values};
+use wm_base::{Memory, Row, Values};
 use wm_image::Image;
 use wm_index::kinds::hist_of;
+use wm_listing::RowList;
 use wm_spec::record::{Hist, Space, Table};
 use wm_view_rows::rows::{EventAt, history_row};
 

@@ -1,10 +1,10 @@
 -- When a run ends before its end.
 use Rattle.std.specs.Prelude.{ℕ, List}
 use Rattle.wm_engine.specs.Working.{LeavesAlone, Tells}
-use Rattle.wm_base.specs.declared.fault.MakeFault.{MakeFault}
-use Rattle.wm_base.specs.declared.fault.MakeFault.TheVariants as making
-use Rattle.wm_base.specs.declared.fault.OpenFault.{OpenFault}
-use Rattle.wm_base.specs.declared.fault.OpenFault.TheVariants as opening
+use Rattle.wm_faults.specs.declared.fault.MakeFault.{MakeFault}
+use Rattle.wm_faults.specs.declared.fault.MakeFault.TheVariants as making
+use Rattle.wm_faults.specs.declared.fault.OpenFault.{OpenFault}
+use Rattle.wm_faults.specs.declared.fault.OpenFault.TheVariants as opening
 use Rattle.wm_engine.specs.declared.fault.LineFault.{LineFault}
 use Rattle.wm_engine.specs.declared.fault.LineFault.TheVariants as running
 use Rattle.wm_station.specs.declared.fault.SayFailed.{SayFailed}

@@ -7,7 +7,7 @@ use Rattle.wm_gen.specs.Script.{script}
 use Rattle.wm_model.specs.Lines.{lines, ended_lines}
 use Rattle.wm_state.specs.State.{State, begin}
 use Rattle.wm_model.specs.Running.{transcript, after, Stopped}
-use Rattle.wm_base.specs.declared.fault.OpenFault.TheVariants.{Damaged}
+use Rattle.wm_faults.specs.declared.fault.OpenFault.TheVariants.{Damaged}
 use Rattle.wm_host.specs.Saying.{OnlySaid}
 use Rattle.wm_host.specs.declared.ended.Place.{Place}
 use Rattle.wm_host.specs.declared.ended.Place.TheVariants.{Nowhere, Page}

@@ -2,7 +2,7 @@
 ghost use Rattle.std.specs.Prelude.{◌≡◌, ◌↔◌};
 
 use crate::stop::Stop;
-use wm_base::Damage;
+use wm_faults::Damage;
 
 /// How a command ended.
 #[derive(Clone, Copy, Debug, PartialEq, Eq)]

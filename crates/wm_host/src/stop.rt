@@ -4,8 +4,9 @@ ghost use Rattle.wm_host.specs.declared.stop.Stop.TheVariants.{Memory as NoMemor
 ghost use Rattle.wm_host.specs.Cause.{stop_of_say, stop_of_line, stop_of_open, stop_of_make};
 
 use thiserror::Error;
-use wm_base::{Damage, MakeFault, Memory, OpenFault};
+use wm_base::Memory;
 use wm_engine::LineFault;
+use wm_faults::{Damage, MakeFault, OpenFault};
 use wm_station::{SayFailed, SourceFailed};
 
 /// Why a command ends before its end.

@@ -3,8 +3,8 @@ use Rattle.std.proofs.Common.{◌≡◌, ℕ, ◌+◌, ◌-◌, ◌<◌, ◌≤�
 use Rattle.std.proofs.lemmas.Bool.{le-ltb, lt-ltb, and_left}
 use Rattle.std.specs.Prelude.{◌&&◌, not, nat_lt, if◌then◌else◌}
 use Rattle.std.proofs.lemmas.List.{drop-take, take-take}
-use Rattle.wm_base.specs.declared.fault.Damage.{Damage}
-use Rattle.wm_base.specs.declared.fault.Damage.TheVariants.{Short, Format, Journal, Root}
+use Rattle.wm_faults.specs.declared.fault.Damage.{Damage}
+use Rattle.wm_faults.specs.declared.fault.Damage.TheVariants.{Short, Format, Journal, Root}
 use Rattle.wm_page.specs.Fields.{number_at}
 use Rattle.wm_page.proofs.Numbers.{number_at-same}
 use Rattle.wm_station.specs.History.{stretch}

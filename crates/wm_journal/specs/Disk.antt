@@ -1,7 +1,7 @@
 -- What the bytes of a file say: its pages, its journal, and the pages that it holds.
 use Rattle.std.specs.Prelude.{ℕ, zero, suc, ◌+◌, ◌*◌, ◌/◌, Bool, true, not, ◌&&◌, ◌==◌, nat_lt, nat_le, if◌then◌else◌, List, [], ◌∷◌, length, slice_index, Option, Some, None}
-use Rattle.wm_base.specs.declared.fault.Damage.{Damage}
-use Rattle.wm_base.specs.declared.fault.Damage.TheVariants.{Short, Format, Journal, Root}
+use Rattle.wm_faults.specs.declared.fault.Damage.{Damage}
+use Rattle.wm_faults.specs.declared.fault.Damage.TheVariants.{Short, Format, Journal, Root}
 use Rattle.wm_page.specs.Entries.{no_page_twice, found}
 use Rattle.wm_page.specs.Fields.{number_at}
 use Rattle.wm_station.specs.History.{stretch}

@@ -1,7 +1,7 @@
 -- What the answers of opening say of a file.
 use Rattle.std.specs.Prelude.{◌≡◌, ℕ, ◌⊎◌, true, false, List, ◌++◌, Some}
-use Rattle.wm_base.specs.declared.fault.OpenFault.{OpenFault}
-use Rattle.wm_base.specs.declared.fault.OpenFault.TheVariants.{Disk, NotStore, Damaged, Memory}
+use Rattle.wm_faults.specs.declared.fault.OpenFault.{OpenFault}
+use Rattle.wm_faults.specs.declared.fault.OpenFault.TheVariants.{Disk, NotStore, Damaged, Memory}
 use Rattle.wm_journal.specs.Disk.{is_made, is_open, is_in_order, journal, damage_of}
 use Rattle.wm_journal.specs.Writes.{Step, Did, DidPart, gating, placing}
 use Rattle.wm_station.specs.History.{History, now}

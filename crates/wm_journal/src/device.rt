@@ -9,7 +9,7 @@ ghost use Rattle.wm_journal.specs.Opening.{IsSilent};
 ghost use Rattle.wm_journal.specs.Writes.{Did, DidPart, placing, gating, arming, committing, root_page, marking, rooting, making};
 
 use crate::format::{FIELDS_AT, FORMAT, GATE_AT, GATE_CLOSED, GATE_OPEN, MADE, NOT_MADE};
-use wm_base::{MakeFault, OpenFault, StoreFault};
+use wm_faults::{MakeFault, OpenFault, StoreFault};
 use wm_page::{PAGE_SIZE, PageWrite, write_number};
 use wm_station::{DiskFailed, Station};
 

@@ -9,7 +9,7 @@ ghost use Rattle.wm_journal.specs.Opening.{Says, IsSilent, IsUntouched};
 
 use crate::device::{make_fault, open_fault};
 use crate::format::{FORMAT, GATE_OPEN, MADE};
-use wm_base::{Damage, MakeFault, OpenFault};
+use wm_faults::{Damage, MakeFault, OpenFault};
 use wm_page::read_number;
 use wm_station::{DiskFailed, Station};
 

@@ -17,7 +17,7 @@ use crate::header::{is_made, read_count, read_header, size_of};
 use crate::replay::repair;
 use std::alloc::Global;
 use std::marker::Model;
-use wm_base::{MakeFault, OpenFault, StoreFault};
+use wm_faults::{MakeFault, OpenFault, StoreFault};
 use wm_page::PageBatch;
 use wm_station::Station;
 

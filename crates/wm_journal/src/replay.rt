@@ -15,7 +15,8 @@ use crate::device::{open_fault, place, set_gate};
 use crate::format::GATE_CLOSED;
 use crate::header::{Header, damaged};
 use std::alloc::Global;
-use wm_base::{Bytes, Damage, OpenFault};
+use wm_base::Bytes;
+use wm_faults::{Damage, OpenFault};
 use wm_page::{PAGE_SIZE, PageWrite, read_number};
 use wm_station::{DiskFailed, Station};
 

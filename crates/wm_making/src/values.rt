@@ -10,8 +10,9 @@ ghost use Rattle.wm_spec.specs.declared.record.column.TableColumn.{TableColumn a
 ghost use Rattle.wm_making.specs.Rows.{is_filled, stored as as_stored, value_alone as value_by_itself, values_of as all_values, value_named as named_value, row_of as values_of_row};
 
 use std::alloc::Global;
-use wm_base::{Columns, Memory, Name, Row, Value, Values};
+use wm_base::{Memory, Name, Row, Value, Values};
 use wm_expr::{ValueFault, value};
+use wm_listing::Columns;
 use wm_spec::record::{Table, TableColumn};
 use wm_syntax::column::Names;
 use wm_syntax::expr::Expr;

@@ -4,8 +4,8 @@ use Rattle.std.proofs.lemmas.Bool.{not-false}
 use Rattle.std.specs.Option.{option_map_or}
 use Rattle.wm_base.proofs.Plain.{nonzero}
 use Rattle.wm_base.specs.Period.{Span}
-use Rattle.wm_base.specs.declared.columns.Column.{Column}
-use Rattle.wm_base.specs.declared.listing.Listing.{Listing as Source}
+use Rattle.wm_listing.specs.declared.columns.Column.{Column}
+use Rattle.wm_listing.specs.declared.listing.Listing.{Listing as Source}
 use Rattle.wm_base.specs.declared.row.Row.{Row}
 use Rattle.wm_syntax.specs.Trees.{Src}
 use Rattle.wm_graph.specs.Parts.{parts_of, table_of}

@@ -1,6 +1,6 @@
 -- What SELECT answers for each state that the records stand for.
 use Rattle.std.proofs.Common.{◌≡◌, ℕ, Bool, true, false, List, [], ◌∷◌, Option, Some, None, unwrap_or, refl, sym, ap, ◌∙◌}
-use Rattle.wm_base.specs.declared.listing.Listing.{Listing as Source}
+use Rattle.wm_listing.specs.declared.listing.Listing.{Listing as Source}
 use Rattle.wm_base.specs.declared.refusal.Refusal.{Refusal}
 use Rattle.wm_syntax.specs.Trees.{Query}
 use Rattle.wm_graph.specs.Parts.{parts_of, space_of}

@@ -1,7 +1,7 @@
 -- What was listed of the sources of a query.
 use Rattle.std.specs.Prelude.{ℕ, ◌≡◌, List, [], ◌∷◌, Option, Some, None}
 use Rattle.wm_base.specs.Period.{Span}
-use Rattle.wm_base.specs.declared.listing.Listing.{Listing as Source}
+use Rattle.wm_listing.specs.declared.listing.Listing.{Listing as Source}
 use Rattle.wm_base.specs.declared.row.Row.{Row}
 use Rattle.wm_syntax.specs.Trees.{Src}
 use Rattle.wm_graph.specs.Parts.{Parts}

@@ -2,7 +2,7 @@
 use Rattle.std.proofs.Common.{◌≡◌, suc, ◌==◌, length, Bool, true, false, List, [], ◌∷◌, map, arith, refl, sym, ap, ◌∙◌}
 use Rattle.std.proofs.lemmas.Bool.{eqb-true}
 use Rattle.std.specs.List.{dedup, dedup_from, zip}
-use Rattle.wm_base.specs.declared.columns.Column.{Column}
+use Rattle.wm_listing.specs.declared.columns.Column.{Column}
 use Rattle.wm_syntax.specs.declared.query.Order.{Order}
 use Rattle.wm_base.specs.declared.value.Value.{Value}
 use Rattle.wm_syntax.specs.Trees.{Query}

@@ -1,6 +1,6 @@
 -- Rows with the values that put them in order.
 use Rattle.std.specs.Prelude.{List}
-use Rattle.wm_base.specs.declared.columns.Column.{Column}
+use Rattle.wm_listing.specs.declared.columns.Column.{Column}
 use Rattle.wm_base.specs.declared.row.Row.{Row}
 use Rattle.wm_base.specs.declared.value.Value.{Value}
 use Rattle.wm_syntax.specs.Trees.{Query}

@@ -15,8 +15,9 @@ use crate::keyed::{Keyed, all_shown_keyed, keyed_rows};
 use crate::order::sort_directed;
 use crate::shown::{Shown, shown_rows};
 use std::alloc::Global;
-use wm_base::{Columns, Memory, Name, Row, RowList, Value, Values};
+use wm_base::{Memory, Name, Row, Value, Values};
 use wm_expr::owned::column_value;
+use wm_listing::{Columns, RowList};
 use wm_syntax::column::Col;
 use wm_syntax::query::{Order, OrderBy, Out, Projection, Query};
 

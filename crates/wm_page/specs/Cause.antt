@@ -1,12 +1,12 @@
 -- What the answer of a call says of a count of faults of the disk: whether it rose, or stands as it was.
 use Rattle.std.specs.Prelude.{◌≡◌, ℕ, ◌+◌, ◌-◌, ◌^◌, ◌≤◌, min, Result, OnOk, IsErrOf}
-use Rattle.wm_base.specs.declared.fault.Damage.{Damage}
-use Rattle.wm_base.specs.declared.fault.MakeFault.{MakeFault}
-use Rattle.wm_base.specs.declared.fault.MakeFault.TheVariants as making
-use Rattle.wm_base.specs.declared.fault.OpenFault.{OpenFault}
-use Rattle.wm_base.specs.declared.fault.OpenFault.TheVariants as opening
-use Rattle.wm_base.specs.declared.fault.StoreFault.{StoreFault}
-use Rattle.wm_base.specs.declared.fault.StoreFault.TheVariants as storing
+use Rattle.wm_faults.specs.declared.fault.Damage.{Damage}
+use Rattle.wm_faults.specs.declared.fault.MakeFault.{MakeFault}
+use Rattle.wm_faults.specs.declared.fault.MakeFault.TheVariants as making
+use Rattle.wm_faults.specs.declared.fault.OpenFault.{OpenFault}
+use Rattle.wm_faults.specs.declared.fault.OpenFault.TheVariants as opening
+use Rattle.wm_faults.specs.declared.fault.StoreFault.{StoreFault}
+use Rattle.wm_faults.specs.declared.fault.StoreFault.TheVariants as storing
 use Rattle.wm_page.specs.declared.pages.PagesFailed.{PagesFailed}
 use Rattle.wm_page.specs.declared.pages.PagesFailed.TheVariants as paging
 

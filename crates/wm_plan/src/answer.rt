@@ -3,7 +3,8 @@ ghost use Rattle.std.specs.Prelude.{◌≡◌};
 ghost use Rattle.wm_plan.specs.Views.{answer_view};
 ghost use Rattle.wm_model.specs.Step.Refusing.{refusal_of};
 
-use wm_base::{Refusal, RowList};
+use wm_base::Refusal;
+use wm_listing::RowList;
 
 /// An answer, before it is written out.
 #[derive(Drop)]

@@ -7,7 +7,8 @@ ghost use Rattle.wm_print.specs.Texts.{Done, Listing, Refused, row_text, done_te
 use crate::refusal::push_refusal;
 use crate::value::{push_count, push_joined};
 use std::alloc::Global;
-use wm_base::{Bytes, Memory, Refusal, Row, RowList};
+use wm_base::{Bytes, Memory, Refusal, Row};
+use wm_listing::RowList;
 
 /// Adds a row on a line of its own.
 #[tactic(auto, unfolding(crate::specs::Texts::row_text))]

@@ -2,7 +2,7 @@
 use Rattle.std.proofs.Common.{◌≡◌, true, List, [], ◌∷◌, None, refl}
 use Rattle.std.proofs.lemmas.Bool.{and_from}
 use Rattle.wm_base.proofs.Plain.{none_mapped, option_or_parts}
-use Rattle.wm_base.specs.declared.columns.Column.{Column}
+use Rattle.wm_listing.specs.declared.columns.Column.{Column}
 use Rattle.wm_syntax.specs.Trees.{Query, Src}
 use Rattle.wm_query_faults.specs.Asking.{unknown_in_sources, mistyped_in_sources, are_sources_typed, query_fault_in}
 use Rattle.wm_query_faults.specs.Lacking.{lacking_in_sources, lacking_in_query, table_meant}

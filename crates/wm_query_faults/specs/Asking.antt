@@ -2,7 +2,7 @@
 use Rattle.std.specs.Prelude.{ℕ, Bool, true, ◌||◌, not, ◌==◌, List, [], ◌∷◌, Option, None, Some, codes}
 use Rattle.std.specs.List.{list_all}
 use Rattle.std.specs.Option.{option_or}
-use Rattle.wm_base.specs.declared.columns.Column.{Column}
+use Rattle.wm_listing.specs.declared.columns.Column.{Column}
 use Rattle.wm_base.specs.declared.refusal.Refusal.{Refusal}
 use Rattle.wm_syntax.specs.declared.query.Agg.{Agg}
 use Rattle.wm_syntax.specs.declared.query.Agg.TheVariants.{Count, Sum, Min, Max}

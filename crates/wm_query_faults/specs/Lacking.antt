@@ -1,7 +1,7 @@
 -- The first WM_VALID that a query names of a table without valid time, in the order of the tokens, and that table.
 use Rattle.std.specs.Prelude.{ℕ, ◌==◌, List, [], ◌∷◌, Option, None, Some, unwrap_or, option_map, bytes_eq, if◌then◌else◌}
 use Rattle.std.specs.Option.{option_or}
-use Rattle.wm_base.specs.declared.columns.Column.{Column}
+use Rattle.wm_listing.specs.declared.columns.Column.{Column}
 use Rattle.wm_syntax.specs.declared.column.Col.{Col}
 use Rattle.wm_syntax.specs.declared.query.Order.{Order}
 use Rattle.wm_syntax.specs.declared.query.OrderBy.{OrderBy}

@@ -5,8 +5,8 @@ ghost use Rattle.wm_spec.specs.Operands.{is_of_source, is_named};
 ghost use Rattle.wm_typing.specs.Names.{lacks_period as lacks};
 ghost use Rattle.wm_query_faults.specs.Items.{is_same_end, name_one, share_source, lack_one, is_same_col, is_among, col_of_operand, col_of, ungrouped, unknown_in_item, unknown_in_outs, is_grouped_by, ungrouped_column, unknown_in_projection, unknown_in_cols};
 
-use wm_base::Column;
 use wm_expr::names::is_named;
+use wm_listing::Column;
 use wm_syntax::column::{Col, Suffix};
 use wm_syntax::expr::Expr;
 use wm_syntax::operand::Operand;

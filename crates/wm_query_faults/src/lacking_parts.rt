@@ -4,7 +4,8 @@ ghost use Rattle.wm_syntax.specs.Views.{item_view, outs_view, projection_view, q
 ghost use Rattle.wm_query_faults.specs.Lacking.{lacking_in_item, lacking_in_outs, lacking_in_projection, lacking_in_sources, lacking_in_cols, lacking_by, lacking_in_orders, lacking_behind, lacking_in_query};
 
 use crate::orders::alias_count;
-use wm_base::{Column, Name};
+use wm_base::Name;
+use wm_listing::Column;
 use wm_syntax::column::Col;
 use wm_syntax::query::{Item, Order, OrderBy, Out, Projection, Query, Src};
 use wm_typing::lacking::{first_source, lacking_col, lacking_in_expr, lacking_in_filter};

@@ -4,7 +4,8 @@ ghost use Rattle.wm_syntax.specs.Views.{query_view, src_view, srcs_view};
 ghost use Rattle.wm_query_faults.specs.Lacking.{label, table_of, last_table, table_meant, table_lacking};
 
 use crate::lacking_parts::lacking_in_query;
-use wm_base::{Column, Name};
+use wm_base::Name;
+use wm_listing::Column;
 use wm_syntax::query::{Query, Src};
 
 /// The name that the source goes by: its alias, where it has one.

@@ -9,7 +9,8 @@ ghost use Rattle.wm_query_faults.specs.Items.{item_count, place_of, is_below, ha
 
 use crate::items::{col_of, is_same_col};
 use std::alloc::Global;
-use wm_base::{Column, Memory, Name};
+use wm_base::{Memory, Name};
+use wm_listing::Column;
 use wm_syntax::column::Col;
 use wm_syntax::query::{Item, Order, OrderBy, Out, Projection};
 use wm_typing::first::{first_of, unless};

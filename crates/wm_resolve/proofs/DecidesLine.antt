@@ -8,7 +8,7 @@ use Rattle.std.specs.Bool.{then_some}
 use Rattle.std.specs.List.{All, cons_option, filter, filter_map, list_all}
 use Rattle.std.specs.Option.{option_map_or, option_or}
 use Rattle.wm_syntax.specs.Trees.{Cond}
-use Rattle.wm_base.specs.declared.columns.Column.{Column}
+use Rattle.wm_listing.specs.declared.columns.Column.{Column}
 use Rattle.wm_base.specs.declared.instant.TheConstants.{END}
 use Rattle.wm_base.specs.declared.value.Value.{Value}
 use Rattle.wm_decided.specs.Deciding.{copied_on, decided_on, decision_of, told_on}

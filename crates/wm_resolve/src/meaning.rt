@@ -12,9 +12,10 @@ ghost use Rattle.wm_spec.specs.Conditions.{fits, is_yes, truth_of, typed};
 ghost use Rattle.wm_typing.specs.Types.{is_filter_typed};
 
 use std::alloc::Global;
-use wm_base::{Columns, Memory, Row, Truth};
+use wm_base::{Memory, Row, Truth};
 use wm_decided::keyed::key_as_row;
 use wm_expr::truth;
+use wm_listing::Columns;
 use wm_pending::clash::Conflict;
 use wm_rowtest::{Judge, RowTest};
 use wm_syntax::cond::Cond;

@@ -6,7 +6,8 @@ ghost use Rattle.wm_syntax.specs.Views.{cond_view};
 ghost use Rattle.wm_spec.specs.Conditions.{typed, fits, truth_of, is_yes};
 
 use crate::judge::Judge;
-use wm_base::{Columns, Row, Truth};
+use wm_base::{Row, Truth};
+use wm_listing::Columns;
 use wm_syntax::cond::Cond;
 
 /// A borrowed condition over the rows of some columns, with a closure that answers it: on each row that fits the

@@ -1,7 +1,7 @@
 -- The row of the items is made of their values.
 use Rattle.std.proofs.Common.{◌≡◌, List, [], ◌∷◌, map, Option, None, Some, option_map, option_and_then, refl, ap, sym, ◌∙◌}
 use Rattle.std.specs.List.{zip}
-use Rattle.wm_base.specs.declared.columns.Column.{Column}
+use Rattle.wm_listing.specs.declared.columns.Column.{Column}
 use Rattle.wm_base.specs.declared.row.Row.{Row}
 use Rattle.wm_base.specs.declared.value.Value.{Value}
 use Rattle.wm_syntax.specs.Trees.{Projection, Out, Outs}

@@ -13,7 +13,8 @@ use crate::group_columns::GroupColumns;
 use crate::group_key::GroupKey;
 use indexmap::IndexMap;
 use std::alloc::Global;
-use wm_base::{Columns, Memory, Row, RowList};
+use wm_base::{Memory, Row};
+use wm_listing::{Columns, RowList};
 use wm_syntax::column::Col;
 
 /// The rows of each group, by the values that they have at the columns of GROUP BY.

@@ -5,9 +5,10 @@ ghost use Rattle.wm_select.specs.Groups.{looked_up, value_in};
 use crate::group_key::GroupKey;
 use std::alloc::Global;
 use std::marker::Model;
-use wm_base::{Column, Memory, Row, Value, Values};
+use wm_base::{Memory, Row, Value, Values};
 use wm_expr::names::place_of;
 use wm_expr::owned::copy_at_end;
+use wm_listing::Column;
 use wm_syntax::column::{Col, Suffix};
 
 /// Where each row has its value at a column.

@@ -12,9 +12,10 @@ ghost use Rattle.wm_select.specs.Query.{all_there, first_row, item_value, projec
 use crate::aggregates::aggregated;
 use std::alloc::Global;
 use std::slice;
-use wm_base::{Columns, Memory, Row, RowList, Value, Values};
+use wm_base::{Memory, Row, Value, Values};
 use wm_expr::{ValueFault, value};
 use wm_joining::kept::blank;
+use wm_listing::{Columns, RowList};
 use wm_ordering::shown::{Shown, all_beside, row_values};
 use wm_syntax::expr::Expr;
 use wm_syntax::query::{Agg, Item, Out, Projection};

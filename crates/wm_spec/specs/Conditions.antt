@@ -3,7 +3,7 @@ use Rattle.std.specs.Prelude.{ℕ, Bool, true, false, ◌&&◌, ◌||◌, not, �
 use Rattle.std.specs.List.{list_all}
 use Rattle.std.specs.declared.cmp.Ordering.{Ordering}
 use Rattle.std.specs.Ordering.{is_eq, is_lt, is_gt}
-use Rattle.wm_base.specs.declared.columns.Column.{Column}
+use Rattle.wm_listing.specs.declared.columns.Column.{Column}
 use Rattle.wm_base.specs.declared.row.Row.{Row}
 use Rattle.wm_syntax.specs.declared.cond.Cmp.{Cmp}
 use Rattle.wm_syntax.specs.declared.cond.Cmp.TheVariants.{Eq, NotEq, BangEq, Lt, Le, Gt, Ge}

@@ -1,6 +1,6 @@
 -- Expressions: the value that they have for a row.
 use Rattle.std.specs.Prelude.{Bool, true, ◌&&◌, ◌^◌, nat_lt, List, Option, Some, None, option_map, if◌then◌else◌, ℤ, pos, negsuc, neg_ℤ, ◌+ℤ◌, ◌-ℤ◌, ◌*ℤ◌}
-use Rattle.wm_base.specs.declared.columns.Column.{Column}
+use Rattle.wm_listing.specs.declared.columns.Column.{Column}
 use Rattle.wm_base.specs.declared.row.Row.{Row}
 use Rattle.wm_syntax.specs.declared.constant.Const.TheVariants as constants
 use Rattle.wm_syntax.specs.declared.operand.Operand.{Operand}

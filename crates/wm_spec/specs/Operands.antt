@@ -1,7 +1,7 @@
 -- The columns that a condition or an expression names, and what its operands are for a row of these columns.
 use Rattle.std.specs.Prelude.{ℕ, Bool, true, false, ◌&&◌, ◌||◌, ◌==◌, List, [], ◌∷◌, count_by, slice_get, Option, Some, None, option_and_then, option_map, unwrap_or, bytes_eq, codes, if◌then◌else◌, pos}
 use Rattle.std.specs.List.{position}
-use Rattle.wm_base.specs.declared.columns.Column.{Column}
+use Rattle.wm_listing.specs.declared.columns.Column.{Column}
 use Rattle.wm_syntax.specs.declared.column.Suffix.{Suffix}
 use Rattle.wm_syntax.specs.declared.column.Suffix.TheVariants.{ValidFrom, ValidTill}
 use Rattle.wm_syntax.specs.declared.constant.PeriodEnd.{PeriodEnd}

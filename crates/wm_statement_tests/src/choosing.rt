@@ -8,9 +8,10 @@ ghost use Rattle.wm_select.specs.Query.{projection_lasts as items_last};
 
 use crate::tables::{are_first, rows};
 use std::alloc::Global;
-use wm_base::{Columns, Listings, Memory, Row, Truth};
+use wm_base::{Memory, Row, Truth};
 use wm_dml::chosen;
 use wm_expr::fits;
+use wm_listing::{Columns, Listings};
 use wm_rowtest::{Judge, RowTest};
 use wm_select::select;
 use wm_syntax::query::Query;

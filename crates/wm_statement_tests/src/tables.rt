@@ -1,7 +1,8 @@
 //! The columns ID and AMT of BUD, both of numbers, and the rows 1|10 and 2|20.
 use std::alloc::Global;
-use wm_base::columns::NUMBER;
-use wm_base::{Column, Columns, Listing, Listings, Memory, Name, Row, RowList, Value, Values};
+use wm_base::{Memory, Name, Row, Value, Values};
+use wm_listing::columns::NUMBER;
+use wm_listing::{Column, Columns, Listing, Listings, RowList};
 
 fn column(alloc: Global, name: &[u8]) -> Result<Column, Memory> {
     Ok(Column {

@@ -4,7 +4,7 @@ use Rattle.std.specs.List.{list_any}
 use Rattle.std.specs.Option.{option_map}
 use Rattle.std.proofs.lemmas.Bool.{eqb-true, or_parts}
 use Rattle.wm_base.proofs.Plain.{either_parts, option_or_parts, unless_parts}
-use Rattle.wm_base.specs.declared.fault.Damage.TheVariants as damages
+use Rattle.wm_faults.specs.declared.fault.Damage.TheVariants as damages
 use Rattle.wm_spec.specs.declared.record.Record.{Record}
 use Rattle.wm_spec.specs.declared.record.stored.Stored.{Stored}
 use Rattle.wm_spec.specs.Records.{ids_differ, AreRecords}

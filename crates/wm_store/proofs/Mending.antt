@@ -1,7 +1,7 @@
 -- A store is opened: what the journal says, what the pages say, and what is left.
 use Rattle.std.proofs.Common.{◌≡◌, ℕ, ◌-◌, ◌*◌, ◌/◌, ◌≤◌, ◌⊎◌, inl, inr, ⊎_elim, true, List, length, Result, Ok, Err, IfOk, OnOk, sym, ap, subst, ◌∙◌, arith}
-use Rattle.wm_base.specs.declared.fault.OpenFault.{OpenFault}
-use Rattle.wm_base.specs.declared.fault.OpenFault.TheVariants as faults
+use Rattle.wm_faults.specs.declared.fault.OpenFault.{OpenFault}
+use Rattle.wm_faults.specs.declared.fault.OpenFault.TheVariants as faults
 use Rattle.wm_spec.specs.declared.record.stored.Stored.{Stored}
 use Rattle.wm_station.specs.History.{History, now, said, Leaves, Synced}
 use Rattle.wm_station.specs.Moments.{Holds, During, Silent}

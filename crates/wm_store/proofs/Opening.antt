@@ -3,8 +3,8 @@ use Rattle.std.proofs.Common.{◌≡◌, ℕ, zero, suc, ◌+◌, ◌-◌, ◌/�
 use Rattle.std.specs.Option.{option_map, option_or}
 use Rattle.std.proofs.lemmas.Bool.{cases_lt, lt-ltb, le-ltb, ltb-false, ltb-true}
 use Rattle.wm_base.proofs.Plain.{option_or_parts}
-use Rattle.wm_base.specs.declared.fault.Damage.{Damage}
-use Rattle.wm_base.specs.declared.fault.Damage.TheVariants as damages
+use Rattle.wm_faults.specs.declared.fault.Damage.{Damage}
+use Rattle.wm_faults.specs.declared.fault.Damage.TheVariants as damages
 use Rattle.wm_spec.specs.declared.record.stored.Stored.{Stored}
 use Rattle.wm_page.specs.Fields.{number_at}
 use Rattle.wm_journal.specs.Disk.{page, is_made, has_format, is_open, is_in_order, held, count_of, damage_of}

@@ -1,8 +1,8 @@
 -- What the faults of opening a store say of the file.
 use Rattle.std.specs.Prelude.{◌≡◌, ℕ, true, false, List, Result, Err}
-use Rattle.wm_base.specs.declared.fault.Damage.{Damage}
-use Rattle.wm_base.specs.declared.fault.OpenFault.{OpenFault}
-use Rattle.wm_base.specs.declared.fault.OpenFault.TheVariants as faults
+use Rattle.wm_faults.specs.declared.fault.Damage.{Damage}
+use Rattle.wm_faults.specs.declared.fault.OpenFault.{OpenFault}
+use Rattle.wm_faults.specs.declared.fault.OpenFault.TheVariants as faults
 use Rattle.wm_journal.specs.Disk.{is_made}
 use Rattle.wm_store.specs.Opened.{opened}
 

@@ -1,7 +1,7 @@
 //! The pages that change the records of a store.
 ghost use Rattle.std.specs.Prelude.{◌≡◌, ◌+◌, ◌*◌, ◌<◌, ◌≤◌, true, false, [], length, is_some, IfOk, OnOk, IsErrOf};
 ghost use Rattle.std.specs.List.{list_any};
-ghost use Rattle.wm_base.specs.declared.fault.StoreFault.TheVariants as faults;
+ghost use Rattle.wm_faults.specs.declared.fault.StoreFault.TheVariants as faults;
 ghost use Rattle.wm_page.specs.Batch.{entries};
 ghost use Rattle.wm_page.specs.Cause.{StoreCause};
 ghost use Rattle.wm_heap.specs.Blobs.{AreBlobs, AreSmall, change_something, moves, slots_put};
@@ -12,7 +12,7 @@ ghost use Rattle.wm_heap.specs.Room.{KnowsRoom};
 ghost use Rattle.wm_store.specs.Few.{AddsLate, PutsFew};
 
 use std::alloc::Global;
-use wm_base::StoreFault;
+use wm_faults::StoreFault;
 use wm_heap::{Blobs, Heap};
 use wm_page::{PageBatch, Pages};
 

@@ -1,8 +1,8 @@
 //! The heap over the pages of a station.
 ghost use Rattle.std.specs.Prelude.{◌≡◌, ◌+◌, ◌*◌, ◌/◌, ◌<◌, ◌≤◌, true, false, [], length, is_some, Ok, IfOk, IfErr, OnOk, IsErrOf};
 ghost use Rattle.std.specs.List.{list_any};
-ghost use Rattle.wm_base.specs.declared.fault.OpenFault.TheVariants as opening;
-ghost use Rattle.wm_base.specs.declared.fault.StoreFault.TheVariants as storing;
+ghost use Rattle.wm_faults.specs.declared.fault.OpenFault.TheVariants as opening;
+ghost use Rattle.wm_faults.specs.declared.fault.StoreFault.TheVariants as storing;
 ghost use Rattle.wm_page.specs.Batch.{entries};
 ghost use Rattle.wm_page.specs.Cause.{OpenCause, StoreCause};
 ghost use Rattle.wm_station.specs.History.{now};
@@ -20,7 +20,8 @@ use crate::changes::change_pages;
 use crate::records::load_pages;
 use crate::station_pages::{StationPages, whole_pages};
 use std::alloc::Global;
-use wm_base::{Bytes, OpenFault, StoreFault};
+use wm_base::Bytes;
+use wm_faults::{OpenFault, StoreFault};
 use wm_heap::{Blobs, Heap};
 use wm_journal::{open_fault, store_fault};
 use wm_page::PageBatch;

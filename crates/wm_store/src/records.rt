@@ -1,8 +1,8 @@
 //! The records of a store, read from its pages.
 ghost use Rattle.std.specs.Prelude.{◌≡◌, ◌≤◌, [], ◌++◌, true, if◌then◌else◌, Some, None, Ok, IfOk, IfErr, OnOk, IsErrOf};
 ghost use Rattle.std.specs.Option.{option_map, option_or};
-ghost use Rattle.wm_base.specs.declared.fault.Damage.TheVariants as damages;
-ghost use Rattle.wm_base.specs.declared.fault.OpenFault.TheVariants as faults;
+ghost use Rattle.wm_faults.specs.declared.fault.Damage.TheVariants as damages;
+ghost use Rattle.wm_faults.specs.declared.fault.OpenFault.TheVariants as faults;
 ghost use Rattle.wm_codec.specs.Reading.{record_of};
 ghost use Rattle.wm_page.specs.Cause.{OpenCause};
 ghost use Rattle.wm_heap.specs.Asking.{Finds};
@@ -13,8 +13,9 @@ ghost use Rattle.wm_store.specs.Answers.{FindsIn};
 ghost use Rattle.wm_store.specs.Opened.{are_records, pages_opened, records_in};
 
 use std::alloc::Global;
-use wm_base::{Damage, Memory, OpenFault};
+use wm_base::Memory;
 use wm_codec::decode;
+use wm_faults::{Damage, OpenFault};
 use wm_heap::{Heap, Slots};
 use wm_page::Pages;
 use wm_spec::record::{Record, Records, Stored};

@@ -1,8 +1,8 @@
 //! A store: its records, and how they change.
 ghost use Rattle.std.specs.Prelude.{◌≡◌, ℕ, ◌+◌, ◌*◌, ◌<◌, ◌≤◌, ◌⊎◌, max, true, false, List, length, is_some, Ok, Err, IfOk, IfErr, OnOk, IsErrOf};
-ghost use Rattle.wm_base.specs.declared.fault.MakeFault.TheVariants as making;
-ghost use Rattle.wm_base.specs.declared.fault.OpenFault.TheVariants as opening;
-ghost use Rattle.wm_base.specs.declared.fault.StoreFault.TheVariants as storing;
+ghost use Rattle.wm_faults.specs.declared.fault.MakeFault.TheVariants as making;
+ghost use Rattle.wm_faults.specs.declared.fault.OpenFault.TheVariants as opening;
+ghost use Rattle.wm_faults.specs.declared.fault.StoreFault.TheVariants as storing;
 ghost use Rattle.wm_spec.specs.Records.{AreChanges, AfterBatch, record_at};
 ghost use Rattle.wm_spec.specs.declared.record.stored.Stored.{Stored};
 ghost use Rattle.wm_page.specs.Cause.{MakeCause, OpenCause, StoreCause};
@@ -25,7 +25,7 @@ use crate::fresh::fresh_heap;
 use crate::over::{change_over, get_over, load_over};
 use crate::records::record_in;
 use std::alloc::Global;
-use wm_base::{MakeFault, OpenFault, StoreFault};
+use wm_faults::{MakeFault, OpenFault, StoreFault};
 use wm_heap::Heap;
 use wm_journal::Journal;
 use wm_spec::record::{Batch, Record, Records};

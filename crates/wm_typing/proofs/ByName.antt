@@ -4,7 +4,7 @@ use Rattle.std.proofs.lemmas.Bool.{or_parts}
 use Rattle.std.specs.Prelude.{not, option_and_then, unwrap_or}
 use Rattle.std.specs.List.{list_all}
 use Rattle.wm_base.proofs.Plain.{none_since, option_or_parts}
-use Rattle.wm_base.specs.declared.columns.Column.{Column}
+use Rattle.wm_listing.specs.declared.columns.Column.{Column}
 use Rattle.wm_syntax.specs.declared.operand.Operand.{Operand}
 use Rattle.wm_syntax.specs.declared.operand.Operand.TheVariants as operands
 use Rattle.wm_syntax.specs.declared.operand.Per.{Per}

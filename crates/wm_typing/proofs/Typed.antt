@@ -3,7 +3,7 @@ use Rattle.std.proofs.Common.{◌≡◌, ℕ, Bool, true, false, ◌&&◌, List,
 use Rattle.std.proofs.lemmas.Bool.{and_from}
 use Rattle.std.specs.List.{list_all}
 use Rattle.wm_base.proofs.Plain.{none_since, option_or_parts}
-use Rattle.wm_base.specs.declared.columns.Column.{Column}
+use Rattle.wm_listing.specs.declared.columns.Column.{Column}
 use Rattle.wm_syntax.specs.declared.constant.Const.{Const}
 use Rattle.wm_syntax.specs.declared.operand.Operand.{Operand}
 use Rattle.wm_syntax.specs.declared.operand.Operand.TheVariants as operands

@@ -4,8 +4,9 @@ ghost use Rattle.wm_graph.specs.Rules.{type_of};
 ghost use Rattle.wm_typing.specs.Columns.{columns_of_table, declared_column, valid_column};
 
 use std::alloc::Global;
-use wm_base::columns::{NUMBER, PERIOD, TEXT, TIME};
-use wm_base::{Column, Columns, Memory, Name};
+use wm_base::{Memory, Name};
+use wm_listing::columns::{NUMBER, PERIOD, TEXT, TIME};
+use wm_listing::{Column, Columns};
 use wm_spec::record::{ColumnKind, Table, TableColumn};
 
 /// The kind of a declared column, as conditions have it.

@@ -4,10 +4,11 @@ ghost use Rattle.std.specs.List.{list_any};
 ghost use Rattle.wm_spec.specs.Operands.{is_of_source as of_source, is_named as named};
 ghost use Rattle.wm_typing.specs.Names.{lacks_period, kind_named, is_kind_of_periods, named_period, named_kind};
 
-use wm_base::columns::{NUMBER, PERIOD};
-use wm_base::{Column, Name};
+use wm_base::Name;
 use wm_expr::names::{is_named, kind_of};
 use wm_expr::types::{constant_kind, kind_at_end};
+use wm_listing::Column;
+use wm_listing::columns::{NUMBER, PERIOD};
 use wm_syntax::operand::{Operand, Per};
 
 /// Whether the column is of the source that is named, where one is.

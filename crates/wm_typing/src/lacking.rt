@@ -5,7 +5,8 @@ ghost use Rattle.wm_syntax.specs.Views.{cond_view, expr_view, filter_view};
 ghost use Rattle.wm_typing.specs.Lacking.{lacking_name, lacking_col, lacking_period, lacking_in_operand, lacking_in_expr, lacking_in_cond, lacking_in_filter};
 
 use crate::kinds::lacks_period;
-use wm_base::{Column, Name};
+use wm_base::Name;
+use wm_listing::Column;
 use wm_syntax::column::Col;
 use wm_syntax::cond::Cond;
 use wm_syntax::expr::Expr;

@@ -6,8 +6,8 @@ ghost use Rattle.wm_typing.specs.Names.{unknown_col, unknown_period, unknown_in_
 
 use crate::first::{first_of, unless};
 use crate::kinds::{kind_named, named_period};
-use wm_base::Column;
 use wm_expr::types::kind_at_end;
+use wm_listing::Column;
 use wm_syntax::column::Col;
 use wm_syntax::cond::Cond;
 use wm_syntax::expr::Expr;

@@ -9,9 +9,9 @@ ghost use Rattle.wm_typing.specs.Types.{expr_kind, is_number, is_numeric, mistyp
 
 use crate::first::{first_of, unless};
 use crate::kinds::named_kind;
-use wm_base::Column;
-use wm_base::columns::NUMBER;
 use wm_expr::types::{may_compare, may_compare_all};
+use wm_listing::Column;
+use wm_listing::columns::NUMBER;
 use wm_syntax::cond::{Cmp, Cond};
 use wm_syntax::constant::Consts;
 use wm_syntax::expr::Expr;

@@ -16,9 +16,10 @@ ghost use Rattle.wm_state.specs.Listing.{IsShowing, seen_row};
 use crate::laying::lay_key;
 use crate::standing::{ending, first_from, from_behind};
 use std::alloc::Global;
-use wm_base::{Instant, Key, Memory, Period, Row, RowList, Value};
+use wm_base::{Instant, Key, Memory, Period, Row, Value};
 use wm_ids::versioned::Versioned;
 use wm_image::Image;
+use wm_listing::RowList;
 use wm_period::Piece;
 use wm_spec::record::{RowRecord, Table};
 

@@ -1,6 +1,6 @@
 -- The columns of what is shown of a table.
 use Rattle.std.specs.Prelude.{ℕ, List, [], ◌∷◌, ◌++◌, codes}
-use Rattle.wm_base.specs.declared.columns.Column.{Column}
+use Rattle.wm_listing.specs.declared.columns.Column.{Column}
 use Rattle.wm_spec.specs.declared.record.table.Table.{Table}
 use Rattle.wm_typing.specs.Columns.{columns_of_table}
 use Rattle.wm_view_rows.specs.declared.view.View.{View}

@@ -1,13 +1,14 @@
 //! The columns of what is shown of a table.
 ghost use Rattle.std.specs.Prelude.{◌≡◌, ◌++◌, ◌∷◌, [], codes, IfOk, OnOk};
-ghost use Rattle.wm_base.specs.declared.columns.Column.{Column as OneColumn};
+ghost use Rattle.wm_listing.specs.declared.columns.Column.{Column as OneColumn};
 ghost use Rattle.wm_typing.specs.Columns.{columns_of_table};
 ghost use Rattle.wm_view_rows.specs.Columns.{columns_of_view, history_columns, text_column};
 
 use crate::view::View;
 use std::alloc::Global;
-use wm_base::columns::{TEXT, TIME};
-use wm_base::{Column, Columns, Memory, Name};
+use wm_base::{Memory, Name};
+use wm_listing::columns::{TEXT, TIME};
+use wm_listing::{Column, Columns};
 use wm_spec::record::Table;
 use wm_typing::columns_of_table;
 

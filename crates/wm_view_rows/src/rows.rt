@@ -5,7 +5,8 @@ ghost use Rattle.wm_view_rows.specs.Given.{event_at, side_rows};
 ghost use Rattle.wm_view_rows.specs.Rows.{conflict_row, conflict_rows, deleted_word, history_row, key_value, key_values, kind_word, shown_values, side_values, time_value};
 
 use std::alloc::Global;
-use wm_base::{Instant, Key, Kind, Memory, Name, Period, Row, RowList, Value, Values};
+use wm_base::{Instant, Key, Kind, Memory, Name, Period, Row, Value, Values};
+use wm_listing::RowList;
 use wm_spec::record::{CellRange, Table};
 
 /// The names of a workspace and its parent.

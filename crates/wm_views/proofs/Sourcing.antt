@@ -2,8 +2,8 @@
 use Rattle.std.proofs.Common.{◌≡◌, ℕ, ◌+◌, ◌<◌, if◌then◌else◌, is_some, get_or, Bool, true, false, List, [], ◌∷◌, ◌++◌, length, drop, Option, Some, None, refl, sym, ap, ◌∙◌}
 use Rattle.std.proofs.lemmas.List.{drop_more}
 use Rattle.std.specs.Option.{option_map_or}
-use Rattle.wm_base.specs.declared.columns.Column.{Column}
-use Rattle.wm_base.specs.declared.listing.Listing.{Listing as Source}
+use Rattle.wm_listing.specs.declared.columns.Column.{Column}
+use Rattle.wm_listing.specs.declared.listing.Listing.{Listing as Source}
 use Rattle.wm_syntax.specs.declared.query.Src.{Src as SrcNode}
 use Rattle.wm_syntax.specs.Trees.{Src}
 use Rattle.wm_syntax.specs.Views.{src_view, srcs_view}

@@ -1,6 +1,6 @@
 -- What a session looks at, as the code has it, and what a query answers over that.
 use Rattle.std.specs.Prelude.{◌≡◌, List, Option, Some, None}
-use Rattle.wm_base.specs.declared.listing.Listing.{Listing as Source}
+use Rattle.wm_listing.specs.declared.listing.Listing.{Listing as Source}
 use Rattle.wm_syntax.specs.Trees.{Query}
 use Rattle.wm_graph.specs.Parts.{Parts}
 use Rattle.wm_model.specs.Sources as sources

@@ -12,8 +12,9 @@ ghost use Rattle.wm_joining.specs.Kept.{columns_of, rows_fit, where_of};
 ghost use Rattle.wm_spec.specs.Conditions.{fits, truth_of, typed};
 
 use std::alloc::Global;
-use wm_base::{Columns, Listings, Memory, Row, RowList, Truth};
+use wm_base::{Memory, Row, Truth};
 use wm_expr::truth;
+use wm_listing::{Columns, Listings, RowList};
 use wm_plan::answer::Answer;
 use wm_plan::refuse::{most_rows, out_of_range};
 use wm_rowtest::{Judge, RowTest};

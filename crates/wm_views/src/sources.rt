@@ -9,8 +9,9 @@ ghost use Rattle.wm_model.specs.Step.{columns_in, lacks_history, lost_history, l
 ghost use Rattle.wm_view_rows.specs.Views.{is_history};
 
 use std::alloc::Global;
-use wm_base::{Column, Columns, Memory, Name};
+use wm_base::{Memory, Name};
 use wm_image::Image;
+use wm_listing::{Column, Columns};
 use wm_spec::record::Table;
 use wm_syntax::query::Src;
 use wm_view_rows::columns::columns_of_view;

@@ -3,7 +3,7 @@ use Rattle.std.proofs.lemmas.List.{append-nil}
 use Rattle.std.specs.Option.{option_copied}
 use Rattle.std.specs.declared.alloc.Global.{Global}
 use Rattle.std.specs.declared.vec.Vec.{Vec}
-use Rattle.wm_base.specs.declared.columns.Column.{Column}
+use Rattle.wm_listing.specs.declared.columns.Column.{Column}
 use Rattle.wm_typing.specs.Columns.{declared_column, valid_column}
 use Rattle.wm_decided.proofs.KeyColumns.{declared_at, key_none, key_some, keys_more}
 use Rattle.wm_decided.proofs.keyed.key_columns.Goals.{in-Some+in_ok-copy+in_ok-push, in_default}

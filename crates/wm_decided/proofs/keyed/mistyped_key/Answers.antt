@@ -1,6 +1,6 @@
 use Rattle.std.proofs.Common.{List, sym, ap, ◌∙◌}
 use Rattle.wm_syntax.specs.Views.{filter_view}
-use Rattle.wm_base.specs.declared.columns.Column.{Column}
+use Rattle.wm_listing.specs.declared.columns.Column.{Column}
 use Rattle.wm_typing.specs.Types.{mistyped_in_filter}
 use Rattle.wm_decided.proofs.KeyColumns.{keys_typed}
 use Rattle.wm_decided.proofs.keyed.mistyped_key.Goals as goal

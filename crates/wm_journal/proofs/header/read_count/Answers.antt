@@ -1,5 +1,5 @@
 use Rattle.std.proofs.Common.{◌≡◌, ℕ, ◌≤◌, List, length, sym, ◌∙◌, subst, arith}
-use Rattle.wm_base.specs.declared.fault.OpenFault.{OpenFault}
+use Rattle.wm_faults.specs.declared.fault.OpenFault.{OpenFault}
 use Rattle.wm_station.specs.History.{now}
 use Rattle.wm_journal.specs.Disk.{count_of}
 use Rattle.wm_journal.specs.Opening.{Says}

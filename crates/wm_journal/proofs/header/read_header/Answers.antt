@@ -1,7 +1,7 @@
 use Rattle.std.proofs.Common.{◌≡◌, ℕ, List, true, false, length, slice_index, sym, ◌∙◌, ap, subst, arith}
 use Rattle.std.proofs.lemmas.Bool.{eq-eqb, ne_eqb}
 use Rattle.std.specs.Prelude.{◌==◌}
-use Rattle.wm_base.specs.declared.fault.OpenFault.{OpenFault}
+use Rattle.wm_faults.specs.declared.fault.OpenFault.{OpenFault}
 use Rattle.wm_station.specs.History.{History, now, stretch}
 use Rattle.wm_journal.specs.Disk.{is_made, has_format}
 use Rattle.wm_journal.specs.Opening.{Says}

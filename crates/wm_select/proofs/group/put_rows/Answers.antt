@@ -1,5 +1,5 @@
 use Rattle.std.proofs.Common.{◌∷◌, List, ap, ◌∙◌, map}
-use Rattle.wm_base.specs.declared.columns.Column.{Column}
+use Rattle.wm_listing.specs.declared.columns.Column.{Column}
 use Rattle.wm_select.specs.Groups.{value_in}
 use Rattle.wm_select.specs.Query.{group_values}
 use Rattle.wm_select.proofs.GroupLemmas.{grouped_more, grouped_none, values_found}

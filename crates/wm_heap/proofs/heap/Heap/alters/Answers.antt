@@ -1,7 +1,7 @@
 use Rattle.std.proofs.Common.{◌≡◌, ◌↔◌, ℕ, List, Option, true, not, is_some, Err, sym, ap, subst, ◌∙◌, arith}
 use Rattle.std.proofs.lemmas.Result.{err_from_is_err_and}
 use Rattle.wm_base.proofs.Plain.{none_since}
-use Rattle.wm_base.specs.declared.fault.StoreFault.TheVariants as faults
+use Rattle.wm_faults.specs.declared.fault.StoreFault.TheVariants as faults
 use Rattle.wm_heap.specs.Blobs.{AreBytes}
 use Rattle.wm_heap.specs.Content.{bytes_at, content}
 use Rattle.wm_heap.proofs.Altering.{alters_told, alters_nowhere, alters_dropped}

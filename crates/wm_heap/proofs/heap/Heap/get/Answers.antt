@@ -1,5 +1,5 @@
 use Rattle.std.proofs.Common.{◌≡◌, sym, ap, ◌∙◌, arith, Err}
-use Rattle.wm_base.specs.declared.fault.StoreFault.TheVariants as faults
+use Rattle.wm_faults.specs.declared.fault.StoreFault.TheVariants as faults
 use Rattle.std.proofs.lemmas.Result.{err_from_is_err_and}
 use Rattle.wm_heap.specs.Content.{bytes_at}
 use Rattle.wm_heap.proofs.Getting.{bytes_there, bytes_nowhere, page_there}

@@ -1,6 +1,6 @@
 use Rattle.std.proofs.Common.{◌≡◌, ◌*◌, ◌/◌, ◌≤◌, ◌⊎◌, length, sym, subst, ◌∙◌}
 use Rattle.std.proofs.lemmas.Result.{err_from_is_err_and}
-use Rattle.wm_base.specs.declared.fault.OpenFault.TheVariants as faults
+use Rattle.wm_faults.specs.declared.fault.OpenFault.TheVariants as faults
 use Rattle.wm_station.specs.History.{History, now, said, Leaves}
 use Rattle.wm_station.specs.Moments.{Holds, During}
 use Rattle.wm_journal.specs.Disk.{page}

@@ -2,10 +2,9 @@
 ghost use Rattle.std.specs.Prelude.{◌≡◌, [], ◌∷◌, ◌++◌, length, OnOk, OnErr};
 
 use crate::columns::Columns;
-use crate::memory::Memory;
-use crate::row::Row;
 use std::alloc::Global;
 use std::marker::Model;
+use wm_base::{Memory, Row};
 
 /// Rows in order: those of a listing, or those of an answer.
 #[derive(Drop)]
@@ -81,7 +80,7 @@ pub struct Listings {
 
 impl Model for Listings {
     ghost use Rattle.std.specs.Prelude.{List};
-    ghost use Rattle.wm_base.specs.declared.listing.Listing.{Listing as OneListing};
+    ghost use Rattle.wm_listing.specs.declared.listing.Listing.{Listing as OneListing};
 
     ghost Value = { List OneListing };
 

@@ -1,10 +1,9 @@
 //! Columns of tables and listings.
 ghost use Rattle.std.specs.Prelude.{◌≡◌, IfOk};
 
-use crate::memory::Memory;
-use crate::text::Name;
 use std::alloc::Global;
 use std::marker::Model;
+use wm_base::{Memory, Name};
 
 /// The kind of a column of numbers.
 pub const NUMBER: u8 = 1;
@@ -44,7 +43,7 @@ pub struct Columns {
 
 impl Model for Columns {
     ghost use Rattle.std.specs.Prelude.{List};
-    ghost use Rattle.wm_base.specs.declared.columns.Column.{Column as OneColumn};
+    ghost use Rattle.wm_listing.specs.declared.columns.Column.{Column as OneColumn};
 
     ghost Value = { List OneColumn };
 

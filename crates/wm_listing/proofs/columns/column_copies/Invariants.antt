@@ -1,5 +1,5 @@
 use Rattle.std.proofs.Common.{◌≡◌, take}
-use Rattle.wm_base.proofs.columns.column_copies.Given as goal
+use Rattle.wm_listing.proofs.columns.column_copies.Given as goal
 
 abbrev pub invariant-loop-column : goal.invariant-loop-column
 invariant-loop-column l = l.copies.items ≡ take l.column-index l.columns

@@ -1,12 +1,12 @@
 //! Why a store is not made, opened, changed or read.
 ghost use Rattle.std.specs.Prelude.{◌≡◌};
-ghost use Rattle.wm_base.specs.declared.fault.MakeFault.TheVariants.{Memory as MakeMemory};
-ghost use Rattle.wm_base.specs.declared.fault.OpenFault.TheVariants.{Memory as OpenMemory};
-ghost use Rattle.wm_base.specs.declared.fault.StoreFault.TheVariants.{Memory as StoreMemory};
+ghost use Rattle.wm_faults.specs.declared.fault.MakeFault.TheVariants.{Memory as MakeMemory};
+ghost use Rattle.wm_faults.specs.declared.fault.OpenFault.TheVariants.{Memory as OpenMemory};
+ghost use Rattle.wm_faults.specs.declared.fault.StoreFault.TheVariants.{Memory as StoreMemory};
 
-use crate::memory;
 use std::alloc::{AllocError, AllocFailed};
 use thiserror::Error;
+use wm_base::memory;
 
 /// Which test of opening a damaged store failed.
 #[derive(Clone, Copy, Debug, PartialEq, Eq)]
