@@ -81,4 +81,6 @@ def main():
 if __name__ == "__main__":
     # Who reads only the beginning of what is written ends this quietly.
     signal.signal(signal.SIGPIPE, signal.SIG_DFL)
+    # Where the locale has no letter for something, a question mark stands for it.
+    sys.stdout.reconfigure(errors="replace")
     sys.exit(main())

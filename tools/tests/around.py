@@ -1,5 +1,6 @@
 """What the tests share: the program, the tools, stores of examples and of random scripts."""
 import os
+import shlex
 import subprocess
 import sys
 import tempfile
@@ -9,7 +10,8 @@ from pathlib import Path
 from machine import SECONDS, folder_in_memory
 
 TOP = Path(__file__).resolve().parents[2]
-PROGRAM = os.environ.get("WM", str(TOP / "build" / "wm"))
+# It may have words behind the program, as where another runs it.
+PROGRAM = os.environ.get("WM") or shlex.quote(str(TOP / "build" / "wm"))
 EXAMPLES = [("first", "2020-01-01"), ("again", "2020-01-02"), ("budget", "2024-06-01"), ("survey", "2024-07-01"),
             ("plans", "2024-08-01"), ("teams", "2024-09-02")]
 TUTORIAL = [("planner", "2024-06-01"), ("surveyor", "2024-06-01"), ("officer", "2024-06-01")]
@@ -23,11 +25,11 @@ def tool(name, *words, **named):
 
 def run(store, now, script):
     """A run of the program alone."""
-    return subprocess.run([*PROGRAM.split(), str(store), "run", "--now", now], input=script, capture_output=True, timeout=SECONDS)
+    return subprocess.run([*shlex.split(PROGRAM), str(store), "run", "--now", now], input=script, capture_output=True, timeout=SECONDS)
 
 
 def made(store, limit=1_048_576):
-    subprocess.run([*PROGRAM.split(), str(store), "init", "--limit", str(limit)], check=True, capture_output=True, stdin=subprocess.DEVNULL)
+    subprocess.run([*shlex.split(PROGRAM), str(store), "init", "--limit", str(limit)], check=True, capture_output=True, stdin=subprocess.DEVNULL)
     return store
 
 

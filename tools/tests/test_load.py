@@ -1,5 +1,6 @@
 """`load` plays the lines that tools/drawn_script.py writes, and counts their answers."""
 import random
+import shlex
 import subprocess
 from collections import Counter
 
@@ -18,7 +19,7 @@ class Load(WithFolder):
     def played(self, seed, lines):
         """The store of a load, what it said, and the store and the answers of a run of the same lines as a script."""
         loaded, other = made(self.folder / "loaded.store"), made(self.folder / "other.store")
-        said = subprocess.run([*PROGRAM.split(), str(loaded), "load", "--seed", str(seed), "--lines", str(lines)], capture_output=True,
+        said = subprocess.run([*shlex.split(PROGRAM), str(loaded), "load", "--seed", str(seed), "--lines", str(lines)], capture_output=True,
                               check=True, timeout=SECONDS, stdin=subprocess.DEVNULL)
         # A load begins at the store's last moment, which is the first there is where the store is fresh.
         answers = run(other, "0001-01-01", tool("drawn_script.py", seed, lines).stdout.encode())

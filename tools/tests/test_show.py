@@ -1,5 +1,6 @@
 """tools/show: what it reads in a file is what the program answers, whatever the file holds."""
 import random
+import shlex
 import shutil
 import subprocess
 from itertools import combinations
@@ -389,7 +390,7 @@ class Files(WithFolder):
         made(self.store)
         begin = b"CONNECT A ANN\nA: CREATE TABLE T (ID NUMBER PRIMARY KEY)\nA: EXECUTE DBMS_WM.EnableVersioning('T')\n"
         inserts = [b"A: INSERT INTO T VALUES (%d)\n" % number for number in range(ROWS)]
-        with subprocess.Popen([*PROGRAM.split(), str(self.store), "run", "--now", "2024-01-01"], stdin=subprocess.PIPE,
+        with subprocess.Popen([*shlex.split(PROGRAM), str(self.store), "run", "--now", "2024-01-01"], stdin=subprocess.PIPE,
                               stdout=subprocess.DEVNULL) as writer:
             writer.stdin.write(begin)
             for first in range(0, ROWS, ROWS // LOOKS):
