@@ -171,6 +171,7 @@ pub fn net_decisions(
             moment,
             user,
         )?;
+        drop(key);
     }
     Ok(Netted { marks, entries })
 }

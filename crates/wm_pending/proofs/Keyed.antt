@@ -1,5 +1,5 @@
 -- What a workspace has of its own, gathered key by key.
-use Rattle.std.proofs.Common.{◌≡◌, true, false, ◌&&◌, ◌||◌, ◌==◌, List, [], ◌∷◌, ◌++◌, map, None, refl, sym, ap, ◌∙◌, subst}
+use Rattle.std.proofs.Common.{◌≡◌, Bool, true, false, cond, ◌&&◌, ◌||◌, ◌==◌, List, [], ◌∷◌, ◌++◌, map, None, refl, sym, ap, ◌∙◌, subst}
 use Rattle.std.proofs.lemmas.List.{map-append}
 use Rattle.std.proofs.lemmas.List.Elements.{All-push}
 use Rattle.std.specs.BTreeMap as tree
@@ -21,6 +21,13 @@ use Rattle.wm_pending.proofs.Stored.{tied}
 use Rattle.wm_pending.specs.Keys.{Place, place_order}
 use Rattle.wm_pending.specs.Owned.{key_pieces}
 use Rattle.wm_pending.specs.declared.own.OwnKey.{OwnKey}
+
+-- a place in a set to which one was added, and which had others
+pub added : (at others : Bool) → cond at true others ≡ (others || (at || false))
+added true true = refl
+added true false = refl
+added false true = refl
+added false false = refl
 
 -- a table and a key as a group
 abbrev pub group_in : Place → Group
