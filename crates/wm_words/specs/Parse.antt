@@ -1,5 +1,5 @@
 -- The grammar as clap sees it, and how what it found is read.
-use Rattle.std.specs.Prelude.{◌&&◌, Bool, not, true, List, Option, Some, codes, nat_eq, option_and_then}
+use Rattle.std.specs.Prelude.{◌&&◌, Bool, not, true, List, Option, Some, codes, length, nat_eq, nat_lt, option_and_then}
 use Rattle.std.specs.List.{starts_with}
 use Rattle.clap.specs.Words.{App, Row, Rule, first_of, new_app, new_rule, with_rule, with_subcommand}
 use Rattle.clap.specs.declared.builder.action.ArgAction.TheVariants.{Set}
