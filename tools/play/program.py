@@ -46,7 +46,9 @@ class Program:
 
     def __init__(self, program, store, now):
         call = [*program, str(store), "run", "--now", now]
-        self.process = subprocess.Popen(call, stdin=subprocess.PIPE, stdout=subprocess.PIPE, stderr=subprocess.PIPE)
+        # In a session of its own no key of the terminal reaches it: Ctrl-C is for who asks for lines.
+        self.process = subprocess.Popen(call, stdin=subprocess.PIPE, stdout=subprocess.PIPE, stderr=subprocess.PIPE,
+                                        start_new_session=True)
 
     def answer(self, line):
         """The lines of the answer."""

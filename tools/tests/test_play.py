@@ -244,6 +244,14 @@ class Terminal(Played):
         said = self.typed(b"CONNECT A ANN\r", b"A: SELEC\r", b"\x04")
         self.assertIn("wm>  CONNECT A ANN\r\n     OK\r\nwm>  A: SELEC\r\n        ^\r\n     WM-003 syntax 4\r\nwm>", plain(said))
 
+    def test_no_key_of_the_terminal_reaches_the_run(self):
+        """It is the first process of a session of its own: Ctrl-C at the prompt drops the line that is typed, and no more."""
+        made(self.store)
+        path = self.folder / "alone.py"
+        path.write_text("import os\nprint('DONE', int(os.getsid(0) == os.getpid()), flush=True)\n")
+        (self.folder / "s.wm").write_bytes(b"CONNECT A ANN\n")
+        self.assertIn("DONE 1", tool("play", self.store, self.folder / "s.wm", "--program", f"{sys.executable} {path}").stdout)
+
     def typed(self, *keys):
         """What a terminal shows where these keys are pressed, each once the prompt is there."""
         call = [sys.executable, str(TOP / "tools" / "play"), str(self.store), "--now", "2024-06-01", "--program", PROGRAM]
