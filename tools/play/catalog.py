@@ -1,4 +1,4 @@
-"""What the store's file says beside the answers: the columns of its tables and their views, and its last moment."""
+"""What the store's file says beside the answers: the columns of its tables and their views, its keys, and its last moment."""
 import re
 
 from storefile.pages import Pages
@@ -6,7 +6,15 @@ from storefile.records import decoded
 
 MAKES_COLUMNS = re.compile(rb"[^:]*:\s*(CREATE\s+TABLE|EXEC(UTE)?\s+DBMS_WM\s*\.\s*EnableVersioning)\b", re.IGNORECASE)
 COUNTERS, TABLE = 1, 2
+NUMBER, TEXT = b"\1", b"\2"
 OF_HISTORY = ["WM_WORKSPACE", "WM_USERNAME", "WM_OPTYPE", "WM_CREATETIME", "WM_RETIRETIME"]
+
+
+def spelled(key):
+    """A number or a text as a record has it."""
+    if isinstance(key, int):
+        return NUMBER + key.to_bytes(8, "big", signed=True)
+    return TEXT + len(key.encode()).to_bytes(2, "big") + key.encode()
 
 
 class Catalog:
@@ -36,3 +44,10 @@ class Catalog:
                 self.known |= {table.name: columns, f"{table.name}_CONF": ["WM_WORKSPACE", *columns, "WM_DELETED"],
                                f"{table.name}_HIST": columns + OF_HISTORY}
         return self.known
+
+    def may_have_key(self, name, column, key):
+        """Whether a record may speak of a key of a table, if the column is its key. Its bytes are looked for, so a chance
+        may say yes, and none says no."""
+        table = next(table for table in self.records(TABLE) if table.name == name)
+        is_key = [table.columns[place].name for place in table.key_columns] == [column]
+        return not is_key or table.number.to_bytes(2, "big") + spelled(key) in self.path.read_bytes()

@@ -17,6 +17,9 @@ CHANGE = re.compile(r"(?:UPDATE|DELETE(?:\s+FROM)?)\s+([A-Za-z][\w$#]*)", re.IGN
 INSERT = re.compile(r"INSERT\s+INTO\s+([A-Za-z][\w$#]*)", re.IGNORECASE)
 CONFLICTS = re.compile(r"SELECT\b.*\bFROM\b.*_CONF\b", re.IGNORECASE | re.DOTALL)
 TEXT = re.compile(r"'(?:[^']|'')*'")
+# A condition that says of a column what it is; and of others what it will, but for OR.
+EQUALS = re.compile(r".*?\bWHERE\s+(?:[A-Za-z][\w$#]*\s*\.\s*)?([A-Za-z][\w$#]*)\s*=\s*(-?\d{1,18}|'(?:[^']|'')+')\s*(?:AND\b.*|;\s*)?",
+                    re.IGNORECASE | re.DOTALL)
 
 
 class Hints:
@@ -59,7 +62,7 @@ class Hints:
         change, insert = CHANGE.match(statement), INSERT.match(statement)
         period = self.periods.get(session) or ""
         if change and answer == [b"DONE 0"] and not ALL_OF_TIME.fullmatch(period) and self.has_valid_time(change[1]):
-            return NOT_SHOWN
+            return NOT_SHOWN if self.may_be_there(change[1].upper(), statement) else None
         if answer == [b"ROWS 0"] and CONFLICTS.match(TEXT.sub("", statement)) and self.looks_at(session) == "'LIVE'":
             return OF_LIVE
         names_period = re.search(r"\bWM_PERIOD\b", TEXT.sub("", statement), re.IGNORECASE)
@@ -70,6 +73,14 @@ class Hints:
     def looks_at(self, session):
         """The workspace whose conflicts the session is shown."""
         return self.looking.get(session) or self.standing.get(session, "'LIVE'")
+
+    def may_be_there(self, table, statement):
+        """Whether at some time a row may hold of which the condition speaks. A key that no record has is none's."""
+        found = EQUALS.fullmatch(statement)
+        if not found or re.search(r"\bOR\b", TEXT.sub("", statement), re.IGNORECASE):
+            return True
+        key = found[2][1:-1].replace("''", "'") if found[2].startswith("'") else int(found[2])
+        return self.catalog.may_have_key(table, found[1].upper(), key)
 
     def has_valid_time(self, table):
         return "WM_VALID" in self.catalog.columns().get(table.upper(), [])

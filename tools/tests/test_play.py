@@ -115,6 +115,15 @@ class Hinted(Played):
             script = b"CONNECT A ANN\nA: EXECUTE DBMS_WM.SetValidTime(" + period + b")\nA: DELETE FROM T\n"
             self.assertEqual(len(self.hints(script + b"CONNECT B BEN\nB: DELETE FROM T\n")), count + 1, period)
 
+    def test_a_key_that_no_row_has_at_any_time(self):
+        """Of it no period is told, for none would show it."""
+        made(self.store)
+        self.lines(TABLE.replace(b"'T'", b"'T', validTime => TRUE") + b"A: EXECUTE DBMS_WM.SetValidTime(DATE '2020-01-01', DATE '2021-01-01')\n"
+                   b"A: INSERT INTO T VALUES (77, 'old')\n")
+        for condition, count in ((b"ID = 77", 1), (b"ID = 78", 0), (b"T.ID=78 AND NOTE = 'a'", 0), (b"ID = 78 OR ID = 77", 1), (b"NOTE = 'new'", 1),
+                                 (b"ID > 78", 1), (b"ID = 78;", 0)):
+            self.assertEqual(len(self.hints(b"CONNECT A ANN\nA: DELETE FROM T WHERE " + condition + b"\n")), count, condition)
+
     def test_no_conflicts_of_live(self):
         made(self.store)
         script = TABLE + (b"A: EXECUTE DBMS_WM.CreateWorkspace('W')\nA: SELECT * FROM T_CONF\nA: SELECT * FROM T\nA: SELECT 'T_CONF' FROM T\n"
