@@ -1,6 +1,6 @@
 # wm, a verified store of version-enabled tables.
 #
-#   make try     plays the examples without a proof, in a minute and a half, for a first look
+#   make try     plays the examples without a proof, in a minute and a half, for a first look, and leaves build/wm-unproved
 #   make demo    builds the proved program, makes a store with it and plays the examples, one after the other
 #   make test    the merge gate: every proof, edit, test and program, and then the cases
 #   make wm      the program alone, at build/wm
@@ -93,7 +93,9 @@ install: build/wm
 	install -D -m 755 build/wm "$(DESTDIR)$(PREFIX)/bin/wm"
 	install -D -m 644 docs/wm.1 "$(DESTDIR)$(PREFIX)/share/man/man1/wm.1"
 	mkdir -p "$(DESTDIR)$(PREFIX)/share/wm"
-	cp -R tools/play tools/show tools/storefile tools/insert_lines.py "$(DESTDIR)$(PREFIX)/share/wm"
+	cp -R tools/play tools/show tools/cells tools/storefile tools/insert_lines.py tools/called.py \
+	    "$(DESTDIR)$(PREFIX)/share/wm"
+	$(PYTHON) tools/called.py > "$(DESTDIR)$(PREFIX)/share/wm/version"
 	install -D -m 644 tools/against/tokens.py "$(DESTDIR)$(PREFIX)/share/wm/against/tokens.py"
 	find "$(DESTDIR)$(PREFIX)/share/wm" -name __pycache__ -prune -exec rm -rf {} +
 	for tool in play show insert_lines.py; do \

@@ -11,7 +11,9 @@ Behind four answers that mislead stands a hint, which begins with a star and is 
     --stop        ends at the first refused line; the lines behind it are not played
     --csv         gives the rows of the queries alone, for a spreadsheet
     --quiet       says nothing on standard error but what went wrong, and adds no hints to answers
-    --program WM  the program. Without it $WM, build/wm, or wm on the path
+    --program WM  the program. Without it $WM, the one built here or installed beside, wm on the path, or the one that
+                  'make try' leaves, of which nothing is proved
+    --version     says of which day this tool is
 
 The status is 0 where each line was accepted, 1 where one was refused, 2 where nothing could be played, and else the
 program's own.
@@ -25,12 +27,16 @@ from pathlib import Path
 
 sys.path.insert(1, str(Path(__file__).resolve().parents[1]))
 
+from called import named, see_to_python, tell_of_itself
+
+see_to_python()
+
 from alone import InUse, hold
 from catalog import Catalog
 from hints import Hints
 from lines import is_refusal, is_silent, script_lines
 from output import Progress, Sheet, Transcript
-from program import Ended, NoProgram, Program, found_program, make_store
+from program import UNPROVED, Ended, NoProgram, Program, found_program, make_store
 from storefile.pages import MADE, Damaged, NotAStore
 from storefile.use import has_a_run
 
@@ -62,17 +68,18 @@ def moment(text):
 
 
 def asked():
-    parser = argparse.ArgumentParser(prog="play", usage=__doc__.split("\n")[0], add_help=False)
+    tell_of_itself("play", __doc__)
+    if len(sys.argv) == 1:
+        print(named(__doc__.strip()))
+        sys.exit(2)
+    parser = argparse.ArgumentParser(prog="play", usage=named(__doc__.split("\n")[0]), add_help=False)
     parser.add_argument("store", type=Path)
     parser.add_argument("script", type=Path, nargs="?")
-    for name in ("new", "stop", "csv", "quiet", "help"):
+    for name in ("new", "stop", "csv", "quiet"):
         parser.add_argument(f"--{name}", action="store_true")
     parser.add_argument("--limit", type=limit, default=GREATEST_LIMIT)
     parser.add_argument("--now", type=moment)
     parser.add_argument("--program")
-    if {"--help", "-h"} & set(sys.argv[1:]) or len(sys.argv) == 1:
-        print(__doc__.strip())
-        sys.exit(0 if len(sys.argv) > 1 else 2)
     return parser.parse_intermixed_args()
 
 
@@ -198,6 +205,8 @@ def main():
         raise Refused(f"another play has {words.store} open") from None
     except OSError as error:
         raise Refused(f"{error.filename}: {error.strerror}") from None
+    if program == [UNPROVED] and not words.quiet:
+        print("play: the program is the one that 'make try' compiled; nothing of it is proved", file=sys.stderr)
     catalog = Catalog(words.store)
     at_terminal = data is None and sys.stdin.isatty()
     words.now = words.now or clock()

@@ -5,9 +5,12 @@ import shutil
 import subprocess
 from pathlib import Path
 
+from called import installed_program
 from lines import ends_answer, is_silent
 
-REPOSITORY = Path(__file__).resolve().parents[2]
+BUILD = Path(__file__).resolve().parents[2] / "build"
+# What 'make try' leaves.
+UNPROVED = str(BUILD / "wm-unproved")
 
 
 class Ended(Exception):
@@ -19,12 +22,12 @@ class NoProgram(Exception):
 
 
 def found_program(asked):
-    """The words that begin a call of the program: those asked for, else the one built here, else the one on the path."""
+    """The words that begin a call of the program: those asked for, else the one that was installed with this tool or
+    was built here, else the one on the path, else the unproved one."""
     asked = asked or os.environ.get("WM")
     if asked:
         return named_program(asked)
-    built = REPOSITORY / "build" / "wm"
-    found = str(built) if built.is_file() else shutil.which("wm")
+    found = installed_program() or shutil.which(str(BUILD / "wm")) or shutil.which("wm") or shutil.which(UNPROVED)
     if found is None:
         raise NoProgram("there is no built program: 'make wm' builds it, and --program names another")
     return [found]

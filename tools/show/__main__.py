@@ -2,12 +2,13 @@
 """python3 tools/show STORE [--log N] [--html FILE [--keys N]]
 
 Shows what a store holds: its tables, the tree of its workspaces and savepoints, how many changes it still takes, who
-changed what and when in tables with history, and what a merge would find in conflict. The file is read as
-docs/FORMAT.md says, and never written; no run is needed.
+changed what and when in tables with history (what a merge brings, under who merged), and what a merge would find in
+conflict. The file is read as docs/FORMAT.md says, and never written; no run is needed.
 
     --log N      so many of the last changes (20)
     --html FILE  writes a page with pictures instead, for a browser; over what is there, unless that is a store
     --keys N     so many keys of a table are drawn on the page, the last changed ones (40)
+    --version    says of which day this tool is
 
 The status is 0, or 1 where the file is no store or is damaged, or no page can be written. Damage is named as the
 program names it; not all that its `check` tests is looked at, so a damaged store may be shown.
@@ -18,6 +19,10 @@ import sys
 from pathlib import Path
 
 sys.path.insert(1, str(Path(__file__).resolve().parents[1]))
+
+from called import named, see_to_python, tell_of_itself
+
+see_to_python()
 
 from shown import shown
 from storefile.pages import MADE, Damaged, NotAStore
@@ -32,14 +37,15 @@ def count(text):
 
 
 def asked():
-    parser = argparse.ArgumentParser(prog="show", usage=__doc__.split("\n")[0], add_help=False)
+    tell_of_itself("show", __doc__)
+    if len(sys.argv) == 1:
+        print(named(__doc__.strip()))
+        sys.exit(2)
+    parser = argparse.ArgumentParser(prog="show", usage=named(__doc__.split("\n")[0]), add_help=False)
     parser.add_argument("store", type=Path)
     parser.add_argument("--log", type=count, default=20)
     parser.add_argument("--keys", type=count, default=40)
     parser.add_argument("--html", type=Path)
-    if {"--help", "-h"} & set(sys.argv[1:]) or len(sys.argv) == 1:
-        print(__doc__.strip())
-        sys.exit(0 if len(sys.argv) > 1 else 2)
     return parser.parse_args()
 
 
