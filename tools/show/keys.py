@@ -69,8 +69,8 @@ def keys_section(store, found, most):
     tables = [table for table in store.tables.values() if store.last_stamps(table)]
     if not tables:
         return ["There are no rows yet."]
-    told = ("Of a table with valid time, each key over time: a bar is a row and the period for which it holds, and equal "
-            "colours are the work of one change. Workspaces that hold the same share a lane; hatched is what is in conflict. "
+    told = ("Of a table with valid time, each key over time: a bar is a row and the period for which it holds. The bars of one "
+            "change have one colour; there are eight, so behind eight changes of a key they repeat. Workspaces that hold the same share a lane; hatched is what is in conflict. "
             "Of other tables, each key in each workspace; marked is what is its own, and pale is what its parent "
             "has otherwise by now.")
     return [told, *(table_card(store, table, found, most) for table in tables)]

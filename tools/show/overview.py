@@ -26,12 +26,16 @@ def state_of(table):
     return ", ".join(["with valid time"] * table.is_valid + ["its history is kept"] * table.has_history) or "version-enabled"
 
 
+def last_change(store):
+    """The moment of the last change, or None. A load may make its changes at the beginning of time."""
+    return store.counters.last_moment if store.counters.next_stamp > 1 or store.tables else None
+
+
 def head(path, store):
-    counters, taken = store.counters, store.counters.next_stamp - 1
+    counters, taken, moment = store.counters, store.counters.next_stamp - 1, last_change(store)
     repaired = " (the last change is still in the journal; the next run puts it in place)" if store.pages.is_repaired else ""
-    moment = str(counters.last_moment) if taken or store.tables else "nothing yet"
     return [f"{path}: {store.pages.count} pages{repaired}",
-            f"last change: {moment}",
+            f"last change: {'nothing yet' if moment is None else moment}",
             f"changes: {taken:,} taken, {counters.limit - taken:,} left of {counters.limit:,}"]
 
 

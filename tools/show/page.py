@@ -1,12 +1,13 @@
 """The page: what a store holds, with pictures."""
 from html import escape
 
+from called import named
 from colours import colour_of
 from conflicts import conflicts_section
 from graph import Graph
 from keys import keys_section
 from look import shell
-from overview import TYPES, WORDS, changed_keys, counted, in_time, state_of
+from overview import TYPES, WORDS, changed_keys, counted, in_time, last_change, state_of
 from storefile.store import LIVE
 from storefile.values import printed
 
@@ -42,8 +43,8 @@ def facts(store, conflicts):
 
 
 def header(name, store, conflicts):
-    moment = store.counters.last_moment
-    told = f"Last change {moment} UTC" if moment else "Nothing has been changed yet"
+    moment = last_change(store)
+    told = "Nothing has been changed yet" if moment is None else f"Last change {moment} UTC"
     if store.pages.is_repaired:
         told += "; the last change is still in the journal, and the next run puts it in place"
     links = "".join(f'<a href="#{place}">{text}</a>' for place, text in SECTIONS.items())
@@ -102,9 +103,10 @@ def log_row(store, entry):
 def log_section(store):
     entries = in_time(store)[::-1]
     rows = "".join(log_row(store, entry) for entry in entries[:MOST_ENTRIES])
-    told = f"{counted(len(entries), 'change')} in tables with history, the newest first."
+    told = (f"{counted(len(entries), 'change')} in tables with history, the newest first. What a merge or a refresh brought "
+            "stands under who asked for it.")
     if len(entries) > MOST_ENTRIES:
-        told += f" The last {MOST_ENTRIES} are here; tools/show STORE --log N lists more."
+        told += f" The last {MOST_ENTRIES} are here; {named('tools/show')} STORE --log N lists more."
     box = '<input hidden data-finds="#log tbody tr" placeholder="find a user, a table, a value ..">'
     heads = "".join(f"<th>{text}</th>" for text in ("When", "Who", "Where", "What", "Table and key", "The row then"))
     inside = [box, card(f"<table><thead><tr>{heads}</tr></thead><tbody>{rows}</tbody></table>")] if rows else []
