@@ -6,10 +6,16 @@ TABLES = (b"CONNECT A ANN\nA: CREATE TABLE LOT (NR NUMBER PRIMARY KEY, CODE VARC
 
 
 class InsertLines(WithFolder):
-    def lines(self, text, *words, table="LOT"):
+    def lines(self, text, *words, table="LOT", encoding="utf-8"):
         path = self.folder / "s.csv"
-        path.write_text(text, encoding="utf-8")
-        return tool("insert_lines.py", table, path, *words)
+        path.write_bytes(text.encode(encoding))
+        return tool("insert_lines.py", table, path, *words, encoding="utf-8")
+
+    def refusal(self, text, *words):
+        """Where and why no script is made of a file."""
+        done = self.lines(text, *words)
+        self.assertEqual((done.returncode, done.stdout), (1, ""))
+        return done.stderr.removeprefix(f"insert_lines: {self.folder / 's.csv'}: ").strip()
 
     def held(self, script):
         """What the table holds when the lines were played."""
@@ -60,6 +66,50 @@ class InsertLines(WithFolder):
             done = self.lines("NR\n1\n", *words, table=table)
             self.assertEqual((done.returncode, done.stdout, done.stderr), (1, "", f"insert_lines: {why}\n"))
         self.assertEqual(tool("insert_lines.py", "LOT", none).stderr, f"insert_lines: {missing}\n")
+
+    def test_what_looks_like_a_number_or_a_day_is_no_text_in_silence(self):
+        advice = "--text NEXT takes the column as one of texts, and --store STORE the types of a table"
+        for cell, why in [("12,50", "'12,50' is no whole number"), ("1.250,00", "'1.250,00' is no whole number"), ("12.5", "'12.5' is no whole number"),
+                          ("31.10.2024", "'31.10.2024' is no day or time, as YYYY-MM-DD"), ("10/31/24", "'10/31/24' is no day or time, as YYYY-MM-DD"),
+                          ("2024-10-32", "'2024-10-32' is in no calendar")]:
+            self.assertEqual(self.refusal(f"NR;NEXT\n1;{cell}\n"), f"line 2, column NEXT: {why}. {advice}")
+        self.assertIn("line 4, column CODE: 'x' is no whole number", self.refusal("NR,CODE\n1,7\n\n2,x\n"))
+        self.assertIn("line 3, column MADE: 'soon' is no day or time", self.refusal("NR,MADE\n1,2024-01-01\n2,soon\n"))
+        self.assertIn("(1, '12,50', '7')", self.lines("NR;A;B\n1;12,50;7\n", "--text", "A", "--text", "b").stdout)
+        # What begins as no number does is a code, and so are all in its column.
+        self.assertIn("(2, '10115')", self.lines("NR,CODE\n1,01067\n2,10115\n").stdout)
+
+    def test_forms_that_are_told(self):
+        words = ("--decimal", ",", "--dates", "DD.MM.YYYY")
+        done = self.lines("NR;CODE;MADE;VALIDFROM\n1.250;a;31.10.2024 5:30;1.2.2024\n-3,00;b;2024-02-01;01.02.2024\n", *words)
+        self.assertEqual([line.partition(" VALUES ")[2] for line in done.stdout.splitlines()],
+                         ["(1250, 'a', TIMESTAMP '2024-10-31 05:30:00', WM_PERIOD(DATE '2024-02-01', DBMS_WM.UNTIL_CHANGED))",
+                          "(-3, 'b', DATE '2024-02-01', WM_PERIOD(DATE '2024-02-01', DBMS_WM.UNTIL_CHANGED))"])
+        self.assertIn("line 2, column NR: '12,50' is no whole number", self.refusal("NR;CODE\n12,50;a\n", *words))
+        self.assertIn("'1,250.00' is no whole number with ',' before decimals", self.refusal("NR;CODE\n1,250.00;a\n", *words))
+        for words, why in [(("--decimal", ";"), "';' is neither a comma nor a point"), (("--dates", "TT.MM.JJJJ"), "'TT.MM.JJJJ' is no form of days")]:
+            self.assertIn(why, self.lines("NR\n1\n", *words).stderr)
+
+    def test_columns_of_the_store_take_what_fits_them(self):
+        run(made(self.store), "2024-06-01", TABLES)
+        for line, why in [("12,50;a;", "column NR: '12,50' is no whole number"), ("1.250;a;", "column NR: '1.250' is no whole number"),
+                          ("9223372036854775808;a;", "column NR: '9223372036854775808' is beyond numbers of 64 bits"),
+                          (";a;", "column NR: nothing stands there, and the column is NOT NULL"),
+                          ("1;Bücherei A;", "column CODE: 'Bücherei A' has 11 bytes, and the column takes 9"),
+                          ("1;a;31.10.2024", "column MADE: '31.10.2024' is no day or time, as YYYY-MM-DD")]:
+            self.assertEqual(self.refusal(f"NR;CODE;MADE\n2;b;\n{line}\n", "--store", self.store), f"line 3, {why}")
+        self.assertIn("(1, '12,50', NULL)", self.lines("NR;CODE;MADE\n1;12,50;\n", "--store", self.store).stdout)
+
+    def test_letters_and_separators_are_seen_or_told(self):
+        wanted = "LOADER: INSERT INTO LOT (NR, CODE) VALUES (1, 'Bücher, €')\n"
+        for encoding in ("utf-8", "utf-8-sig", "utf-16", "cp1252"):
+            for text in ("NR;CODE\r\n1;Bücher, €\r\n", "NR\tCODE\n1\tBücher, €\n", 'NR,CODE\n1,"Bücher, €"\n', "sep=;\r\nNR;CODE\r\n1;Bücher, €\r\n;\r\n"):
+                self.assertEqual(self.lines(text, encoding=encoding).stdout, wanted, (encoding, text))
+        told = ("--separator", "|", "--encoding", "iso8859-15")
+        self.assertEqual(self.lines("NR|CODE\n1|Bücher, €\n", *told, encoding="iso8859-15").stdout, wanted)
+        self.assertIn("there is no encoding none", self.refusal("NR\n1\n", "--encoding", "none"))
+        self.assertIn("line 2: no letters of ascii", self.refusal("NR\nü\n", "--encoding", "ascii"))
+        self.assertIn("line 2: ", self.refusal('NR,CODE\n1,"a"b\n'))
 
     def test_ends_of_a_period_may_be_columns(self):
         done = self.lines("NR,VALIDFROM,SINCE\n1,2,2020-01-01\n", "--from", "since")
