@@ -93,12 +93,12 @@ install: build/wm
 	install -D -m 755 build/wm "$(DESTDIR)$(PREFIX)/bin/wm"
 	install -D -m 644 docs/wm.1 "$(DESTDIR)$(PREFIX)/share/man/man1/wm.1"
 	mkdir -p "$(DESTDIR)$(PREFIX)/share/wm"
-	cp -R tools/play tools/show tools/cells tools/storefile tools/insert_lines.py tools/called.py \
+	cp -R tools/play tools/show tools/sheet tools/cells tools/storefile tools/insert_lines.py tools/called.py \
 	    "$(DESTDIR)$(PREFIX)/share/wm"
 	$(PYTHON) tools/called.py > "$(DESTDIR)$(PREFIX)/share/wm/version"
 	install -D -m 644 tools/against/tokens.py "$(DESTDIR)$(PREFIX)/share/wm/against/tokens.py"
 	find "$(DESTDIR)$(PREFIX)/share/wm" -name __pycache__ -prune -exec rm -rf {} +
-	for tool in play show insert_lines.py; do \
+	for tool in play show sheet insert_lines.py; do \
 	    printf '#!/bin/sh\nexec %s "%s/share/wm/%s" "$$@"\n' "$(PYTHON)" "$(PREFIX)" "$$tool" \
 	        | install -m 755 /dev/stdin "$(DESTDIR)$(PREFIX)/bin/wm-$${tool%_lines.py}"; done
 

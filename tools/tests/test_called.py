@@ -9,11 +9,11 @@ import sys
 from around import PROGRAM, TOP, WithFolder, made, run, tool
 from machine import SECONDS
 
-TOOLS = {"play": "play", "show": "show", "insert": "insert_lines.py"}
+TOOLS = {"play": "play", "show": "show", "sheet": "sheet", "insert": "insert_lines.py"}
 # A tool is run as by an older Python, of which only the number is seen.
 OLDER = "import runpy, sys; sys.version_info = (3, 8, 18, 'final', 0); sys.argv = sys.argv[1:]; runpy.run_path(sys.argv[0], run_name='__main__')"
 # The words of these files are read by each Python that is asked to run a tool.
-FIRST_READ = ["called.py", "insert_lines.py", "play/__main__.py", "show/__main__.py", "first_look.py"]
+FIRST_READ = ["called.py", "insert_lines.py", "play/__main__.py", "show/__main__.py", "sheet/__main__.py", "first_look.py"]
 
 
 class Called(WithFolder):
