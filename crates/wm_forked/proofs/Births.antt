@@ -154,14 +154,14 @@ child_kept p q s t place implicit w child k x r u v stand found fields spaces is
 -- and they stand for it
 pub Stands-birth : (p : Parts) (old new : Counters) (front : List Space) (a : Space) (back : List Space) (place implicit : ℕ) (x : Savepoint) (b r : Space) (v : Version) (u : Turn) (parent child : Workspace) (k : Kept) (s t : Durable)
     → Stands p s → MaySave p old (between old new) front a back place implicit x → MayBear p old new b r v u → workspace_of s.spaces x.space ≡ Some parent → IsKept p s parent k x → IsBornAt x k r u child
-    → t.spaces ≡ with_space x.space (with_savepoint place implicit k) s.spaces ++ child ∷ [] → t.tables ≡ s.tables → CountersStand (birthed p old new front a back place implicit x r v u) t
+    → t.spaces ≡ with_space x.space (with_savepoint place implicit k) s.spaces ++ child ∷ [] → t.tables ≡ s.tables → t.locks ≡ s.locks → CountersStand (birthed p old new front a back place implicit x r v u) t
     → Stands (birthed p old new front a back place implicit x r v u) t
-Stands-birth p old new front a back place implicit x b r v u parent child k s t st save bear found is_kept is_born spaces tables counters =
+Stands-birth p old new front a back place implicit x b r v u parent child k s t st save bear found is_kept is_born spaces tables locks counters =
     Stands-born q (birthed p old new front a back place implicit x r v u) mid t r v.number u child (turn_at_birth k)
     (born_of q (between old new) new still.new r v u may (keep-saved p old (between old new) front a back place implicit x save st.rules))
-    (Stands-kept p old (between old new) front a back place implicit x parent k s mid st save found is_kept refl refl (record { counters = between old new; one = refl; next_stamp = refl; last_moment = refl; limit = refl; work = refl }))
+    (Stands-kept p old (between old new) front a back place implicit x parent k s mid st save found is_kept refl refl refl (record { counters = between old new; one = refl; next_stamp = refl; last_moment = refl; limit = refl; work = refl }))
     (child_kept p q s mid place implicit parent child k x r u (saved_of p old (between old new) front a back place implicit x save st.rules) st.savepoints found is_kept.fields refl is_born)
-    spaces tables counters (keep-birth p old new front a back place implicit x b r v u save bear st.rules)
+    spaces tables locks counters (keep-birth p old new front a back place implicit x b r v u save bear st.rules)
   where
     q : Parts
     q = saved p (between old new) front a back place implicit x

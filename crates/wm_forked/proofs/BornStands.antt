@@ -27,7 +27,7 @@ use Rattle.wm_state.proofs.Marking.{AreMarked, MarksStand-kept, SayMarked, marks
 use Rattle.wm_state.proofs.Named.{version_below}
 use Rattle.wm_state.proofs.Naming.{Carries, Covers-as, Named-as, NamedStand-kept, Owned-as, OwnsStand-kept, Stays, Tells-as, WasNamed, carries-more, climbs_kept, named_of, own_there, there_of}
 use Rattle.wm_state.proofs.Ready.{KeepReady, KeepReady-same}
-use Rattle.wm_state.proofs.Staying.{AreReal, AreReal-same, AreTold, EntriesStand-kept, LaterStand-same, TouchesStand-kept, WasTold, WasTouched, entries_real, turns_in, turns_of-alike, turns_of-found}
+use Rattle.wm_state.proofs.Staying.{AreReal, AreReal-same, AreTold, EntriesStand-kept, LocksStand-same, TouchesStand-kept, WasTold, WasTouched, entries_real, turns_in, turns_of-alike, turns_of-found}
 use Rattle.wm_forked.proofs.Birth.{FieldsStand-born, Is, child_found, child_none, find_more, is_of}
 use Rattle.wm_forked.proofs.Placed.{tell_none}
 use Rattle.wm_forked.proofs.Sprouting.{Sprouted, covers-before, covers-sprout, newest-away, newest-here, seen-before, seen-sprout}
@@ -322,9 +322,9 @@ module _ (p q : Parts) (s t : Durable) (r : Space) (number : ℕ) (turn : TurnRe
 
 -- ---- the records stand for the state with the workspace more
 
-pub Stands-born : (p q : Parts) (s t : Durable) (r : Space) (number : ℕ) (turn : TurnRecord) (w : Workspace) (u : Turn) → Born p q r number turn → Stands p s → IsChild p s r turn w u → t.spaces ≡ s.spaces ++ w ∷ [] → t.tables ≡ s.tables
+pub Stands-born : (p q : Parts) (s t : Durable) (r : Space) (number : ℕ) (turn : TurnRecord) (w : Workspace) (u : Turn) → Born p q r number turn → Stands p s → IsChild p s r turn w u → t.spaces ≡ s.spaces ++ w ∷ [] → t.tables ≡ s.tables → t.locks ≡ s.locks
     → CountersStand q t → keep_rules q ≡ true → Stands q t
-Stands-born p q s t r number turn w u b st child spaces tables counters rules = record {
+Stands-born p q s t r number turn w u b st child spaces tables locks counters rules = record {
   rules = rules;
   counters = counters;
   tables = fields.tables;
@@ -336,7 +336,7 @@ Stands-born p q s t r number turn w u b st child spaces tables counters rules = 
   turns = TurnsStand-born p q s t r number turn w u b st.rules st.spaces child spaces st.turns;
   touches = TouchesStand-born p q s t r number turn w u b st.rules st.spaces child spaces st.touches;
   marks = MarksStand-born p q s t r number turn w u b st.rules st.spaces child spaces st.marks;
-  later = LaterStand-same p q (ap (λ (z : Parts). z.locks) b.rest) st.later;
+  locks = LocksStand-same p q s t (ap (λ (z : Parts). z.locks) b.rest) locks st.locks;
   hists = HistsStand-frame p q s t (ap (λ (z : Parts). z.hists) b.rest) (logs_born p q s t r number turn w u b st.rules st.spaces child spaces) ready st.entries st.hists;
   entries = EntriesStand-born p q s t r number turn w u b st.rules st.spaces child spaces ready st.entries;
   rows = RowsStand-born p q s t r number turn w u b st.rules st.spaces child spaces ready st.named st.entries st.rows;

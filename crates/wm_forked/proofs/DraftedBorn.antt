@@ -205,7 +205,7 @@ drafts_born rs m work n at name a pt c counters_id space_id id rules can_work ca
       (sym (born_so m n at name s h.workspace k.savepoint h.found (ap (λ i. saved_at m s.spaces h.workspace (stand_of at) i true) (implicit_same (parts_of rs) s a h.workspace h.is) ∙ k.is)))
       (plan_birth rs counters_id space_id id c (versioned c m work) a place implicit x a r v u h.workspace (child_of m s.spaces h.workspace k.savepoint name) k.savepoint s _ st birth h.is.found k.kept
       (child_same (parts_of rs) s a m h.workspace (stand_of at) name pt st h.is k)
-      (ap (λ ws. ws ++ child_of m s.spaces h.workspace k.savepoint name ∷ []) (same_spaces (parts_of rs) s a h.workspace (stand_of at) k.savepoint h.is)) refl
+      (ap (λ ws. ws ++ child_of m s.spaces h.workspace k.savepoint name ∷ []) (same_spaces (parts_of rs) s a h.workspace (stand_of at) k.savepoint h.is)) refl refl
       (record { counters = versioned c m work; one = refl; next_stamp = counts.next_stamp; last_moment = refl; limit = counts.limit; work = ap (λ w. w + work) counts.work }));
   fields = λ s st.
       let h = home_of (parts_of rs) s n a st.spaces there in

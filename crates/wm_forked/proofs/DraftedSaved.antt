@@ -97,7 +97,7 @@ drafts_saved rs m work n name a c counters_id space_id id rules can_work can the
       subst (λ (u : Durable). Stands (parts_of (applied (savepoint_batch counters_id (moved c m work) space_id (marked (a.next_place + 1) a.next_implicit a) id x) rs)) (record u { last_moment = m; work = s.work + work }))
       (sym (saved_so m n name s h.workspace k.savepoint h.found k.is))
       (plan_saved rs counters_id space_id c (moved c m work) a (a.next_place + 1) a.next_implicit id x h.workspace k.savepoint s _ st at.sorted at.counters at.one at.space at.under may_keep
-      h.is.found k.kept (same_spaces (parts_of rs) s a h.workspace k.savepoint h.is) refl
+      h.is.found k.kept (same_spaces (parts_of rs) s a h.workspace k.savepoint h.is) refl refl
       (record { counters = moved c m work; one = refl; next_stamp = counts.next_stamp; last_moment = refl; limit = counts.limit; work = ap (λ w. w + work) counts.work }));
   fields = λ s st.
       let h = home_of (parts_of rs) s n a st.spaces there in

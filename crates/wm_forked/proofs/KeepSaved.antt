@@ -200,10 +200,10 @@ FieldsStand-kept p old new front a back place implicit x w k s t rules st may fo
 
 -- the records stand for the state with the savepoint
 pub Stands-kept : (p : Parts) (old new : Counters) (front : List Space) (a : Space) (back : List Space) (place implicit : ℕ) (x : Savepoint) (w : Workspace) (k : Kept) (s t : Durable) → Stands p s → MaySave p old new front a back place implicit x
-    → workspace_of s.spaces x.space ≡ Some w → IsKept p s w k x → t.spaces ≡ with_space x.space (with_savepoint place implicit k) s.spaces → t.tables ≡ s.tables → CountersStand (saved p new front a back place implicit x) t
+    → workspace_of s.spaces x.space ≡ Some w → IsKept p s w k x → t.spaces ≡ with_space x.space (with_savepoint place implicit k) s.spaces → t.tables ≡ s.tables → t.locks ≡ s.locks → CountersStand (saved p new front a back place implicit x) t
     → Stands (saved p new front a back place implicit x) t
-Stands-kept p old new front a back place implicit x w k s t st may found kept spaces tables counters =
-    Stands-saved p (saved p new front a back place implicit x) s t x.space place implicit w k x (saved_of p old new front a back place implicit x may st.rules) st found kept spaces tables
+Stands-kept p old new front a back place implicit x w k s t st may found kept spaces tables locks counters =
+    Stands-saved p (saved p new front a back place implicit x) s t x.space place implicit w k x (saved_of p old new front a back place implicit x may st.rules) st found kept spaces tables locks
     (wide (recorded_of p s st.spaces x.space w found)) counters (keep-saved p old new front a back place implicit x may st.rules)
   where
     -- no fewer places are given than before

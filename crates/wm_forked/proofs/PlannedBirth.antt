@@ -202,10 +202,10 @@ agree_birth ss counters_id space_id id old new a place implicit x b r v u parent
 -- and stand for it
 pub plan_birth : (ss : List Stored) (counters_id space_id id : ℕ) (old new : Counters) (a : Space) (place implicit : ℕ) (x : Savepoint) (b r : Space) (v : Version) (u : Turn) (parent child : Workspace) (k : Kept) (s t : Durable)
     → Stands (parts_of ss) s → MayBirth ss counters_id space_id id old new a place implicit x b r v u → workspace_of s.spaces x.space ≡ Some parent → IsKept (parts_of ss) s parent k x → IsBornAt x k r u child
-    → t.spaces ≡ with_space x.space (with_savepoint place implicit k) s.spaces ++ child ∷ [] → t.tables ≡ s.tables → CountersStand (recounted (parts_of ss) new) t
+    → t.spaces ≡ with_space x.space (with_savepoint place implicit k) s.spaces ++ child ∷ [] → t.tables ≡ s.tables → t.locks ≡ s.locks → CountersStand (recounted (parts_of ss) new) t
     → Stands (parts_of (applied (birth_batch counters_id new space_id (marked place implicit a) id x r v u) ss)) t
-plan_birth ss counters_id space_id id old new a place implicit x b r v u parent child k s t st may found is_kept is_born spaces tables counters =
+plan_birth ss counters_id space_id id old new a place implicit x b r v u parent child k s t st may found is_kept is_born spaces tables locks counters =
     let i = parts-birth ss counters_id space_id id old new a place implicit x b r v u may in
     subst (λ p. Stands p t) (sym i.is)
-    (Stands-birth (parts_of ss) old new i.front a i.back place implicit x b r v u parent child k s t st (may.save i.front i.back i.old_spaces) may.bear found is_kept is_born spaces tables
+    (Stands-birth (parts_of ss) old new i.front a i.back place implicit x b r v u parent child k s t st (may.save i.front i.back i.old_spaces) may.bear found is_kept is_born spaces tables locks
     (record { counters = counters.counters; one = counters.one; next_stamp = counters.next_stamp; last_moment = counters.last_moment; limit = counters.limit; work = counters.work }))

@@ -154,12 +154,12 @@ agree_saved ss counters_id space_id old new a place implicit id x w k s u rules 
 pub plan_saved : (ss : List Stored) (counters_id space_id : ℕ) (old new : Counters) (a : Space) (place implicit id : ℕ) (x : Savepoint) (w : Workspace) (k : Kept) (s u : Durable) → Stands (parts_of ss) s → Ascend ss
     → record_at ss counters_id ≡ Some (records.Counters old) → (parts_of ss).counters ≡ old ∷ [] → record_at ss space_id ≡ Some (records.Space a) → AllUnder id ss
     → ((front back : List Space) → (parts_of ss).spaces ≡ front ++ a ∷ back → MaySave (parts_of ss) old new front a back place implicit x)
-    → workspace_of s.spaces x.space ≡ Some w → IsKept (parts_of ss) s w k x → u.spaces ≡ with_space x.space (with_savepoint place implicit k) s.spaces → u.tables ≡ s.tables
+    → workspace_of s.spaces x.space ≡ Some w → IsKept (parts_of ss) s w k x → u.spaces ≡ with_space x.space (with_savepoint place implicit k) s.spaces → u.tables ≡ s.tables → u.locks ≡ s.locks
     → CountersStand (recounted (parts_of ss) new) u → Stands (parts_of (applied (savepoint_batch counters_id new space_id (marked place implicit a) id x) ss)) u
-plan_saved ss counters_id space_id old new a place implicit id x w k s u st sorted counters one space under may found kept spaces tables stands =
+plan_saved ss counters_id space_id old new a place implicit id x w k s u st sorted counters one space under may found kept spaces tables locks stands =
     let i = parts-saved ss counters_id space_id old new a place implicit id x sorted counters one space under in
     subst (λ p. Stands p u) (sym i.is)
-    (Stands-kept (parts_of ss) old new i.front a i.back place implicit x w k s u st (may i.front i.back i.old) found kept spaces tables (counted_still i.front i.back))
+    (Stands-kept (parts_of ss) old new i.front a i.back place implicit x w k s u st (may i.front i.back i.old) found kept spaces tables locks (counted_still i.front i.back))
   where
     counted_still : (front back : List Space) → CountersStand (saved (parts_of ss) new front a back place implicit x) u
     counted_still front back = record {

@@ -17,7 +17,7 @@ use Rattle.wm_state.proofs.Logging.{HistsStand-frame, log_of-changed}
 use Rattle.wm_state.proofs.Marking.{MarksStand-alike, marks_in}
 use Rattle.wm_state.proofs.Naming.{Named-as, NamedStand-kept, Owned-as, OwnsStand-kept, carries-same, stays-changed}
 use Rattle.wm_state.proofs.Ready.{KeepReady, KeepReady-same, all_real-kept}
-use Rattle.wm_state.proofs.Staying.{AreReal, EntriesStand-kept, LaterStand-same, RowsStand-alike, SameTurns, TurnsStand-alike, entries_real, part-changed, turns_in}
+use Rattle.wm_state.proofs.Staying.{AreReal, EntriesStand-kept, LocksStand-same, RowsStand-alike, SameTurns, TurnsStand-alike, entries_real, part-changed, turns_in}
 use Rattle.wm_forked.proofs.Placed.{Tell-as, tell_wider}
 use Rattle.wm_forked.proofs.Saving.{FieldsStand-saved, MadeCase, WasSaved, had_mark, made_case, saved_as-away, saved_as-here, was_saved}
 
@@ -166,8 +166,8 @@ module _ (p q : Parts) (s t : Durable) (n place implicit : ℕ) (w : Workspace) 
 -- ---- the records stand for the state with the savepoint
 
 pub Stands-saved : (p q : Parts) (s t : Durable) (n place implicit : ℕ) (w : Workspace) (k : Savepoint) (x : Record) → Saved p q n place implicit x → Stands p s → workspace_of s.spaces n ≡ Some w → IsKept p s w k x
-    → t.spaces ≡ with_space n (with_savepoint place implicit k) s.spaces → t.tables ≡ s.tables → w.next_place ≤ place → CountersStand q t → keep_rules q ≡ true → Stands q t
-Stands-saved p q s t n place implicit w k x v st found new_one spaces tables wide counters rules = record {
+    → t.spaces ≡ with_space n (with_savepoint place implicit k) s.spaces → t.tables ≡ s.tables → t.locks ≡ s.locks → w.next_place ≤ place → CountersStand q t → keep_rules q ≡ true → Stands q t
+Stands-saved p q s t n place implicit w k x v st found new_one spaces tables locks wide counters rules = record {
   rules = rules;
   counters = counters;
   tables = fields.tables;
@@ -179,7 +179,7 @@ Stands-saved p q s t n place implicit w k x v st found new_one spaces tables wid
   turns = TurnsStand-alike p q s t (ap (λ (z : Parts). z.turns) v.rest) alike st.turns;
   touches = TouchesStand-saved p q s t n place implicit w k x v spaces found new_one st.savepoints st.rules st.spaces wide st.touches;
   marks = MarksStand-alike p q s t (ap (λ (z : Parts). z.marks) v.rest) (part-changed marks_in n (with_savepoint place implicit k) (λ w. refl) (λ w. refl) s.spaces t.spaces spaces) st.marks;
-  later = LaterStand-same p q (ap (λ (z : Parts). z.locks) v.rest) st.later;
+  locks = LocksStand-same p q s t (ap (λ (z : Parts). z.locks) v.rest) locks st.locks;
   hists = HistsStand-frame p q s t (ap (λ (z : Parts). z.hists) v.rest) logs ready st.entries st.hists;
   entries = EntriesStand-saved p q s t n place implicit w k x v spaces found new_one st.savepoints ready st.entries;
   rows = RowsStand-alike p q s t (KeepRows-same p q (ap (λ (z : Parts). z.rows) v.rest)) ready logs alike st.entries st.rows;

@@ -72,7 +72,7 @@ drafts_gain rs m work entries a c counters_id space_id id ids traced rules can_w
   keeps = keeps;
   once = once;
   stands = λ s st.
-      plan_gained rs counters_id space_id id c d a es ids traced gains s (drafted_by work m (edits.Gain a.number entries ∷ []) s) st refl refl
+      plan_gained rs counters_id space_id id c d a es ids traced gains s (drafted_by work m (edits.Gain a.number entries ∷ []) s) st refl refl refl
       (counts_moved s (gained_in a.number es s) m work c d refl refl (counts_as (parts_of rs) s c st at.one) refl refl refl refl);
   fields = λ s st.
       agree_gained rs counters_id space_id id c d a es ids traced gains s (drafted_by work m (edits.Gain a.number entries ∷ []) s) rules st refl refl

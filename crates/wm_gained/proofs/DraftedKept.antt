@@ -74,7 +74,7 @@ drafts_keep rs m work n a c counters_id space_id id rules can_work can there at 
       subst (λ (u : Durable). Stands (parts_of (applied batch rs)) (record u { last_moment = m; work = s.work + work }))
       (sym (kept_so m n s h.workspace k.savepoint h.found (ap (λ i. saved_at m s.spaces h.workspace Latest i true) (implicit_same (parts_of rs) s a h.workspace h.is) ∙ k.is)))
       (plan_saved rs counters_id space_id c (moved c m work) a (a.next_place + 1) (a.next_implicit + 1) id x h.workspace k.savepoint s _ st at.sorted at.counters at.one at.space at.under may_keep
-      h.is.found k.kept (same_spaces (parts_of rs) s a h.workspace Latest k.savepoint h.is) refl
+      h.is.found k.kept (same_spaces (parts_of rs) s a h.workspace Latest k.savepoint h.is) refl refl
       (record { counters = moved c m work; one = refl; next_stamp = counts.next_stamp; last_moment = refl; limit = counts.limit; work = ap (λ w. w + work) counts.work }));
   fields = λ s st.
       let h = home_of (parts_of rs) s n a st.spaces there in

@@ -89,7 +89,7 @@ drafts_replay rs m work entries a c counters_id space_id id ids traced rules can
   keeps = keeps;
   once = once;
   stands = λ s st.
-      plan_replayed rs counters_id space_id id c d a v es ids drawn traced replays s (drafted_by work m (edits.Replay a.number entries ∷ []) s) st refl refl
+      plan_replayed rs counters_id space_id id c d a v es ids drawn traced replays s (drafted_by work m (edits.Replay a.number entries ∷ []) s) st refl refl refl
       (counts_moved s (replayed_in a.number es s) m work c d refl refl (counts_as (parts_of rs) s c st at.one) refl refl refl refl);
   fields = λ s st.
       agree_replayed rs counters_id space_id id c d a v es ids drawn traced replays s (drafted_by work m (edits.Replay a.number entries ∷ []) s) rules st refl refl

@@ -125,10 +125,10 @@ module _ (ss : List Stored) (counters_id space_id id : ℕ) (old new : Counters)
       (FieldsStand-gained (parts_of ss) q s u a.number es (gained_so (parts_of ss) old new a place es traced written.front written.back rules w.may are written.old) st spaces tables (counted_so q refl))
 
   -- and stand for it
-  pub plan_gained : (s u : Durable) → Stands (parts_of ss) s → u.spaces ≡ with_space a.number (with_gained es) s.spaces → u.tables ≡ s.tables
+  pub plan_gained : (s u : Durable) → Stands (parts_of ss) s → u.spaces ≡ with_space a.number (with_gained es) s.spaces → u.tables ≡ s.tables → u.locks ≡ s.locks
       → ((q : Parts) → q.counters ≡ new ∷ [] → CountersStand q u) → Stands (parts_of (applied batch ss)) u
-  plan_gained s u st spaces tables counted_so =
+  plan_gained s u st spaces tables locks counted_so =
       let q = gained_parts (parts_of ss) new written.front a written.back place es traced in
       subst (λ p. Stands p u) (sym parts-gained)
-      (Stands-gained (parts_of ss) q s u a.number es (gained_so (parts_of ss) old new a place es traced written.front written.back st.rules w.may are written.old) st spaces tables (counted_so q refl)
+      (Stands-gained (parts_of ss) q s u a.number es (gained_so (parts_of ss) old new a place es traced written.front written.back st.rules w.may are written.old) st spaces tables locks (counted_so q refl)
       (keep-gained (parts_of ss) old new a place es traced written.front written.back st.rules w.may are written.old))

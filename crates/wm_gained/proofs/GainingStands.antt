@@ -10,7 +10,7 @@ use Rattle.wm_gained.specs.Gaining.{Gained}
 use Rattle.wm_gained.proofs.Gained.{longer_gained}
 use Rattle.wm_gained.proofs.GainingNamed.{NamedStand-gained, OwnsStand-gained}
 
-pub Stands-gained : (p q : Parts) (s t : Durable) (n : ℕ) (es : List Entry) → Gained p q n es → Stands p s → t.spaces ≡ with_space n (with_gained es) s.spaces → t.tables ≡ s.tables → CountersStand q t → keep_rules q ≡ true → Stands q t
-Stands-gained p q s t n es g st spaces tables counters rules =
-    Stands-longer p q s t n es (λ own. own) (longer_gained p q n es g) spaces st tables (λ fs own news. own) counters rules
+pub Stands-gained : (p q : Parts) (s t : Durable) (n : ℕ) (es : List Entry) → Gained p q n es → Stands p s → t.spaces ≡ with_space n (with_gained es) s.spaces → t.tables ≡ s.tables → t.locks ≡ s.locks → CountersStand q t → keep_rules q ≡ true → Stands q t
+Stands-gained p q s t n es g st spaces tables locks counters rules =
+    Stands-longer p q s t n es (λ own. own) (longer_gained p q n es g) spaces st tables (λ fs own news. own) locks counters rules
     (NamedStand-gained p q s t n es g spaces st.rules st.spaces st.named) (OwnsStand-gained p q s t n es g spaces st.owns)

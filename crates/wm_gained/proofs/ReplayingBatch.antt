@@ -130,8 +130,8 @@ module _ (ss : List Stored) (counters_id space_id id : ℕ) (old new : Counters)
       subst (λ p. FieldsStand p u) (sym parts-replayed) (FieldsStand-replayed (parts_of ss) q s u a.number v.number es (replayed_here rules) spaces tables (counted_so q refl) st)
 
   -- and stand for it
-  pub plan_replayed : (s u : Durable) → Stands (parts_of ss) s → u.spaces ≡ with_space a.number (with_entries es) s.spaces → u.tables ≡ s.tables
+  pub plan_replayed : (s u : Durable) → Stands (parts_of ss) s → u.spaces ≡ with_space a.number (with_entries es) s.spaces → u.tables ≡ s.tables → u.locks ≡ s.locks
       → ((q : Parts) → q.counters ≡ new ∷ [] → CountersStand q u) → Stands (parts_of (applied batch ss)) u
-  plan_replayed s u st spaces tables counted_so =
+  plan_replayed s u st spaces tables locks counted_so =
       let q = replayed_parts (parts_of ss) new v written.front a written.back place es drawn traced in
-      subst (λ p. Stands p u) (sym parts-replayed) (Stands-replayed (parts_of ss) q s u a.number v.number es (replayed_here st.rules) spaces tables (counted_so q refl) st (rules_here st.rules))
+      subst (λ p. Stands p u) (sym parts-replayed) (Stands-replayed (parts_of ss) q s u a.number v.number es (replayed_here st.rules) spaces tables (counted_so q refl) st locks (rules_here st.rules))

@@ -25,5 +25,5 @@ module _ (p q : Parts) (s t : Durable) (n number : ℕ) (es : List Entry) (y : R
   pub FieldsStand-replayed : FieldsStand p s → FieldsStand q t
   FieldsStand-replayed st = FieldsStand-wrote_all y.between q halfway t n es y.wrote (FieldsStand-forked p y.between s halfway n number y.forked st refl refl counted) spaces tables counters
 
-  pub Stands-replayed : Stands p s → keep_rules q ≡ true → Stands q t
-  Stands-replayed st rules = Stands-wrote_all y.between q halfway t n es y.wrote (Stands-forked p y.between s halfway n number y.forked st refl refl counted y.rules) spaces tables counters rules
+  pub Stands-replayed : Stands p s → t.locks ≡ s.locks → keep_rules q ≡ true → Stands q t
+  Stands-replayed st locks rules = Stands-wrote_all y.between q halfway t n es y.wrote (Stands-forked p y.between s halfway n number y.forked st refl refl refl counted y.rules) spaces tables locks counters rules

@@ -110,7 +110,7 @@ drafts_rebase rs m work emptied c a b counters_id space_id id ids ks rules can_w
       let h = based_there (parts_of rs) s a.number a b st.spaces there parent in
       let counts = counts_as (parts_of rs) s c st at.one in
       subst (λ (u : Durable). Stands (parts_of (applied batch rs)) (record u { last_moment = m; work = s.work + work })) (sym (rebased_there s a.number emptied h))
-      (plan_rebased rs counters_id space_id id c d a b emptied y news ids at marks.gone may h.workspace h.parent s _ st h.is refl refl
+      (plan_rebased rs counters_id space_id id c d a b emptied y news ids at marks.gone may h.workspace h.parent s _ st h.is refl refl refl
       (record { counters = d; one = refl; next_stamp = counts.next_stamp; last_moment = refl; limit = counts.limit; work = ap (λ w. w + work) counts.work }));
   fields = λ s st.
       let h = based_there (parts_of rs) s a.number a b st.spaces there parent in

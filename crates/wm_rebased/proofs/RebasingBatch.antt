@@ -216,7 +216,7 @@ module _ (ss : List Stored) (counters_id space_id id : ℕ) (old new : Counters)
       subst (λ p. FieldsStand p u) (sym its.is) (FieldsStand-put_on (parts_of ss) old new its.front a its.back b emptied y news w pw s u rules st (may its.front its.back its.old) g spaces tables (counted_still u stands))
 
   -- and stand for it
-  pub plan_rebased : (w pw : Workspace) (s u : Durable) → Stands (parts_of ss) s → IsRebase s a.number w pw → u.spaces ≡ with_space a.number (rebased emptied pw) s.spaces → u.tables ≡ s.tables
+  pub plan_rebased : (w pw : Workspace) (s u : Durable) → Stands (parts_of ss) s → IsRebase s a.number w pw → u.spaces ≡ with_space a.number (rebased emptied pw) s.spaces → u.tables ≡ s.tables → u.locks ≡ s.locks
       → CountersStand (recounted (parts_of ss) new) u → Stands (parts_of (applied (rebase_batch counters_id new space_id (rebased_on y.parent b.log_length a) ids id y (turn_record a.number a b) news) ss)) u
-  plan_rebased w pw s u st g spaces tables stands =
-      subst (λ p. Stands p u) (sym its.is) (Stands-put_on (parts_of ss) old new its.front a its.back b emptied y news w pw s u st (may its.front its.back its.old) g spaces tables (counted_still u stands))
+  plan_rebased w pw s u st g spaces tables locks stands =
+      subst (λ p. Stands p u) (sym its.is) (Stands-put_on (parts_of ss) old new its.front a its.back b emptied y news w pw s u st (may its.front its.back its.old) g spaces tables locks (counted_still u stands))

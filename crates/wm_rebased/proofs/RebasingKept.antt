@@ -324,8 +324,8 @@ FieldsStand-put_on p old new front a back b emptied y news w pw s t rules st may
     FieldsStand-rebased p (put_on p new front a back b y news) s t a.number y.number emptied a b news w pw (rebased_of p old new front a back b emptied y news may rules) g st spaces tables counters
 
 pub Stands-put_on : (p : Parts) (old new : Counters) (front : List Space) (a : Space) (back : List Space) (b : Space) (emptied : Bool) (y : Version) (news : List PieceRecord) (w pw : Workspace) (s t : Durable) → Stands p s
-    → MayRebase p old new front a back b emptied y news → IsRebase s a.number w pw → t.spaces ≡ with_space a.number (rebased emptied pw) s.spaces → t.tables ≡ s.tables → CountersStand (put_on p new front a back b y news) t
+    → MayRebase p old new front a back b emptied y news → IsRebase s a.number w pw → t.spaces ≡ with_space a.number (rebased emptied pw) s.spaces → t.tables ≡ s.tables → t.locks ≡ s.locks → CountersStand (put_on p new front a back b y news) t
     → Stands (put_on p new front a back b y news) t
-Stands-put_on p old new front a back b emptied y news w pw s t st may g spaces tables counters =
-    Stands-rebased p (put_on p new front a back b y news) s t a.number y.number emptied a b news w pw (rebased_of p old new front a back b emptied y news may st.rules) st g spaces tables counters
+Stands-put_on p old new front a back b emptied y news w pw s t st may g spaces tables locks counters =
+    Stands-rebased p (put_on p new front a back b y news) s t a.number y.number emptied a b news w pw (rebased_of p old new front a back b emptied y news may st.rules) st g spaces tables locks counters
     (keep-rebased p old new front a back b emptied y news may st.rules)

@@ -20,7 +20,7 @@ use Rattle.wm_state.proofs.Logging.{HistsStand-frame, log_of-changed, logs-kept}
 use Rattle.wm_state.proofs.Mapped.{find-skip}
 use Rattle.wm_state.proofs.Marking.{AreMarked, unmarked}
 use Rattle.wm_state.proofs.Ready.{KeepReady, KeepReady-same, all_real-kept}
-use Rattle.wm_state.proofs.Staying.{AreReal, EntriesStand-kept, LaterStand-same, TouchesStand-kept, entries_real, turns_in, turns_of-alike, turns_of-found}
+use Rattle.wm_state.proofs.Staying.{AreReal, EntriesStand-kept, LocksStand-same, TouchesStand-kept, entries_real, turns_in, turns_of-alike, turns_of-found}
 use Rattle.wm_forked.proofs.Birth.{find_more}
 use Rattle.wm_rebased.specs.Rebasing.{IsRebase, RebasedTo, is_elsewhere, turn_record}
 use Rattle.wm_rebased.proofs.RebasingFields.{FieldsStand-rebased, WasRebased, before, found_away, found_here, new_here, recorded_here, recorded_parent, slice_get-push, turns_many}
@@ -211,8 +211,8 @@ module _ (p q : Parts) (s t : Durable) (n number : ℕ) (emptied : Bool) (a b : 
 -- ---- the records stand for the state with the workspace rebased
 
 pub Stands-rebased : (p q : Parts) (s t : Durable) (n number : ℕ) (emptied : Bool) (a b : Space) (news : List PieceRecord) (w pw : Workspace) → RebasedTo p q n number emptied a b news → Stands p s → IsRebase s n w pw
-    → t.spaces ≡ with_space n (rebased emptied pw) s.spaces → t.tables ≡ s.tables → CountersStand q t → keep_rules q ≡ true → Stands q t
-Stands-rebased p q s t n number emptied a b news w pw v st g spaces tables counters rules = record {
+    → t.spaces ≡ with_space n (rebased emptied pw) s.spaces → t.tables ≡ s.tables → t.locks ≡ s.locks → CountersStand q t → keep_rules q ≡ true → Stands q t
+Stands-rebased p q s t n number emptied a b news w pw v st g spaces tables locks counters rules = record {
   rules = rules;
   counters = counters;
   tables = fields.tables;
@@ -224,7 +224,7 @@ Stands-rebased p q s t n number emptied a b news w pw v st g spaces tables count
   turns = TurnsStand-rebased p q s t n number emptied a b news w pw v g st.spaces spaces st.turns;
   touches = TouchesStand-rebased p q s t n number emptied a b news w pw v g st.spaces spaces st.touches;
   marks = MarksStand-rebased p q s t n number emptied a b news w pw v g st.spaces spaces st.marks;
-  later = LaterStand-same p q (ap (λ (z : Parts). z.locks) v.rest) st.later;
+  locks = LocksStand-same p q s t (ap (λ (z : Parts). z.locks) v.rest) locks st.locks;
   hists = HistsStand-frame p q s t (ap (λ (z : Parts). z.hists) v.rest) (logs_rebased p q s t n number emptied a b news w pw v g st.spaces spaces) ready st.entries st.hists;
   entries = EntriesStand-rebased p q s t n number emptied a b news w pw v g st.spaces spaces ready st.entries;
   rows = RowsStand-rebased p q s t n number emptied a b news w pw v g st.spaces spaces ready st.named st.entries st.rows;

@@ -42,7 +42,7 @@ drafts_settle rs m work marks a c counters_id id ids drawn rules can_work can th
   keeps = keeps;
   once = once;
   stands = λ s st.
-      plan_settled rs counters_id id c d a ms ids drawn rules settles s (drafted_by work m (edits.Settle a.number marks ∷ []) s) st refl refl
+      plan_settled rs counters_id id c d a ms ids drawn rules settles s (drafted_by work m (edits.Settle a.number marks ∷ []) s) st refl refl refl
       (counts_moved s (settled_in a.number ms s) m work c d refl refl (counts_as (parts_of rs) s c st at.one) refl refl refl refl);
   fields = λ s st.
       agree_settled rs counters_id id c d a ms ids drawn rules settles s (drafted_by work m (edits.Settle a.number marks ∷ []) s) st refl refl

@@ -179,5 +179,5 @@ module _ (ss : List Stored) (counters_id id : ℕ) (old new : Counters) (a : Spa
   agree_settled d e st spaces tables counts = subst (λ z. FieldsStand z e) (sym parts_after) (FieldsStand-settled p q d e a.number ms settled_then spaces st tables (counts q refl))
 
   -- and stand for it
-  pub plan_settled : (d e : Durable) → Stands p d → e.spaces ≡ with_space a.number (with_marks ms) d.spaces → e.tables ≡ d.tables → ((z : Parts) → z.counters ≡ new ∷ [] → CountersStand z e) → Stands (parts_of (applied batch ss)) e
-  plan_settled d e st spaces tables counts = subst (λ z. Stands z e) (sym parts_after) (Stands-settled p q d e a.number ms settled_then spaces st tables (counts q refl) keeps)
+  pub plan_settled : (d e : Durable) → Stands p d → e.spaces ≡ with_space a.number (with_marks ms) d.spaces → e.tables ≡ d.tables → e.locks ≡ d.locks → ((z : Parts) → z.counters ≡ new ∷ [] → CountersStand z e) → Stands (parts_of (applied batch ss)) e
+  plan_settled d e st spaces tables locks counts = subst (λ z. Stands z e) (sym parts_after) (Stands-settled p q d e a.number ms settled_then spaces st tables locks (counts q refl) keeps)

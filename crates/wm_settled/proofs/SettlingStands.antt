@@ -19,7 +19,7 @@ use Rattle.wm_state.proofs.Logging.{HistsStand-frame, log_of-changed}
 use Rattle.wm_state.proofs.Marking.{AreMarked, MarksStand-kept, SayMarked, marks_in}
 use Rattle.wm_state.proofs.Naming.{Carries, Framed, IsKeptOwn, IsMarked, IsNewest, IsNewestOwn, Named-as, NamedStand-kept, Owned-as, OwnsStand-kept, Still, WasNamed, carries-same, named_framed, owns_framed, past_framed, stays-changed}
 use Rattle.wm_state.proofs.Ready.{KeepReady, KeepReady-same}
-use Rattle.wm_state.proofs.Staying.{AreReal, AreReal-same, EntriesStand-kept, LaterStand-same, RowsStand-alike, SameTurns, TouchesStand-kept, TurnsStand-alike, WasTold, WasTouched, entries_real, part-changed, turns_in}
+use Rattle.wm_state.proofs.Staying.{AreReal, AreReal-same, EntriesStand-kept, LocksStand-same, RowsStand-alike, SameTurns, TouchesStand-kept, TurnsStand-alike, WasTold, WasTouched, entries_real, part-changed, turns_in}
 use Rattle.wm_settled.specs.Settling.{SettledIn, said}
 use Rattle.wm_settled.proofs.Saying.{settled-append, settled-made}
 
@@ -166,8 +166,8 @@ module _ (p q : Parts) (s t : Durable) (n : ℕ) (ms : List NewMark) (g : Settle
 
   -- ---- all clauses
 
-  pub Stands-settled : Stands p s → t.tables ≡ s.tables → CountersStand q t → keep_rules q ≡ true → Stands q t
-  Stands-settled st tables counters rules = record {
+  pub Stands-settled : Stands p s → t.tables ≡ s.tables → t.locks ≡ s.locks → CountersStand q t → keep_rules q ≡ true → Stands q t
+  Stands-settled st tables locks counters rules = record {
     rules = rules;
     counters = counters;
     tables = fields.tables;
@@ -179,7 +179,7 @@ module _ (p q : Parts) (s t : Durable) (n : ℕ) (ms : List NewMark) (g : Settle
     turns = TurnsStand-alike p q s t (ap (λ (z : Parts). z.turns) g.rest) alike st.turns;
     touches = TouchesStand-kept p q s t (λ m new is. inl (touched m new (before m new is), λ below log tell. subst (λ xs. TouchesTell xs m below log) (sym touches) tell)) st.touches;
     marks = MarksStand-settled st.spaces st.marks;
-    later = LaterStand-same p q (ap (λ (z : Parts). z.locks) g.rest) st.later;
+    locks = LocksStand-same p q s t (ap (λ (z : Parts). z.locks) g.rest) locks st.locks;
     hists = HistsStand-frame p q s t (ap (λ (z : Parts). z.hists) g.rest) logs ready st.entries st.hists;
     entries = EntriesStand-kept t (λ m new is. real m new (before m new is));
     rows = RowsStand-alike p q s t rows ready logs alike st.entries st.rows;

@@ -16,7 +16,7 @@ use Rattle.wm_spec.specs.declared.record.table.Table.{Table}
 use Rattle.wm_state.specs.Batches.{AllUnder, create_batch, enable_batch, put, ready}
 use Rattle.wm_state.specs.ById.{Ascend, applied}
 use Rattle.wm_state.specs.Drafts.{CanCreate, CanWork, Drafts, DraftsBy}
-use Rattle.wm_state.specs.Editing.{drafted_by, edited, enable_named, line_work}
+use Rattle.wm_state.specs.Editing.{drafted_by, edited, enable_named, work_of}
 use Rattle.wm_state.specs.Points.{moved}
 use Rattle.wm_state.specs.Standing.{TablesStand, FieldsStand, Stands, by_number}
 use Rattle.wm_state.specs.State.{Readiness, Durable, table_named}
@@ -61,7 +61,7 @@ drafts_none work rs m rules = record {
 
 -- nor in a line
 pub drafts_nothing : (rs : List Stored) (m : ℕ) → keep_rules (parts_of rs) ≡ true → Drafts rs m [] []
-drafts_nothing = drafts_none line_work
+drafts_nothing = drafts_none (work_of [])
 
 -- one edit is not none
 pub some_edit : (e : Edit) (es : List Edit) (cs : List Change) → e ∷ es ≡ [] → cs ≡ []
@@ -92,7 +92,7 @@ drafts_created rs m work t c counters_id id rules can_work can one there sorted 
   once = once;
   stands = λ s st.
       let counts = counts_as (parts_of rs) s c st one in
-      plan_created rs counters_id id c (moved c m work) t s (drafted_by work m (edits.Create t ∷ []) s) st sorted there under may refl refl
+      plan_created rs counters_id id c (moved c m work) t s (drafted_by work m (edits.Create t ∷ []) s) st sorted there under may refl refl refl
       (record { counters = moved c m work; one = refl; next_stamp = counts.next_stamp; last_moment = refl; limit = counts.limit; work = ap (λ w. w + work) counts.work });
   fields = λ s st.
       let counts = counts_in (parts_of rs) s c st.counters one in
@@ -139,7 +139,7 @@ drafts_enabled rs m work name valid history t c counters_id id rules can_work na
   stands = λ s st.
       let counts = counts_as (parts_of rs) s c st one in
       subst (λ (u : Durable). Stands (parts_of (applied (enable_batch counters_id (moved c m work) id how t) rs)) (record u { last_moment = m; work = s.work + work })) (sym (enabled_so rs m name valid history t s st.tables named))
-      (plan_readied rs counters_id id c (moved c m work) how t s _ st sorted there one found off key counts_well refl refl (work_grows c.work work) refl refl
+      (plan_readied rs counters_id id c (moved c m work) how t s _ st sorted there one found off key counts_well refl refl (work_grows c.work work) refl refl refl
       (λ front back. record { counters = moved c m work; one = refl; next_stamp = counts.next_stamp; last_moment = refl; limit = counts.limit; work = ap (λ w. w + work) counts.work }));
   fields = λ s st.
       let counts = counts_in (parts_of rs) s c st.counters one in

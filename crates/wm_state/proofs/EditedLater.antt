@@ -67,6 +67,9 @@ edited_timed m (edits.Keep n) moment work s = keep_timed m moment work s (worksp
 edited_timed m (edits.Replay n entries) moment work s = refl
 edited_timed m (edits.Gain n entries) moment work s = refl
 edited_timed m (edits.Settle n marks) moment work s = refl
+edited_timed m (edits.Lock n mode user cells) moment work s = refl
+edited_timed m (edits.Unlock makings) moment work s = refl
+edited_timed m (edits.Freeze n mode writer) moment work s = refl
 edited_timed m (edits.Rebase n emptied) moment work s = rebase_timed n emptied moment work s (parent_of s.spaces n)
 
 -- so do edits

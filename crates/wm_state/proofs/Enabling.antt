@@ -17,6 +17,7 @@ use Rattle.wm_state.proofs.Standing.{FieldsStand-retabled, Stands-retabled}
 use Rattle.wm_state.proofs.Keeping.{KeepTables, KeepTables-swap, KeepSpaces-same, KeepVersions-same, KeepRows-same, are_savepoints-kept, are_rows-kept, are_pieces-kept, are_hists-kept, few-same}
 use Rattle.wm_state.proofs.KeepingTurns.{are_locks-kept, are_marks-kept, are_touches-kept}
 use Rattle.wm_state.proofs.Ready.{KeepReady-enabled, tables_found}
+use Rattle.wm_state.proofs.Staying.{LocksStand-same}
 
 -- the records with one table so ready, and other counters
 abbrev pub readied : Parts → Counters → List Table → Readiness → Table → List Table → Parts
@@ -167,10 +168,11 @@ FieldsStand-readied p new front how t back s u rules st old spaces tables counte
 
 -- and stand for it, where the table was not ready before
 pub Stands-readied : (p : Parts) (new : Counters) (front : List Table) (how : Readiness) (t : Table) (back : List Table) (s u : Durable) → Stands p s → p.tables ≡ front ++ t ∷ back → t.versioned ≡ false → has_key t ≡ true → are_counters new ≡ true
-    → ((c : Counters) → p.counters ≡ c ∷ [] → (new.next_version ≡ c.next_version) × (new.next_stamp ≡ c.next_stamp) × (c.work ≤ new.work)) → u.spaces ≡ s.spaces → u.tables ≡ enabled t.number how s.tables
+    → ((c : Counters) → p.counters ≡ c ∷ [] → (new.next_version ≡ c.next_version) × (new.next_stamp ≡ c.next_stamp) × (c.work ≤ new.work)) → u.spaces ≡ s.spaces → u.tables ≡ enabled t.number how s.tables → u.locks ≡ s.locks
     → CountersStand (readied p new front how t back) u → Stands (readied p new front how t back) u
-Stands-readied p new front how t back s u st old off key counted same spaces tables counters =
-    Stands-retabled p (readied p new front how t back) s u (record { rest = refl }) spaces st (tables_readied p new front how t back s u st.rules st.tables old tables) counters
+Stands-readied p new front how t back s u st old off key counted same spaces tables locks counters =
+    Stands-retabled p (readied p new front how t back) s u (record { rest = refl }) spaces st (tables_readied p new front how t back s u st.rules st.tables old tables)
+    (LocksStand-same p (readied p new front how t back) s u refl locks st.locks) counters
     (keep-readied p new front how t back st.rules old key counted same)
     (KeepReady-enabled s.tables u.tables how t
     (tables_found p s st.tables t.number ∙ ap (λ ts. table_of ts t.number) old ∙ found_in front back t (alone_of p front back t st.rules old).before)

@@ -65,6 +65,7 @@ abbrev pub state_for : Parts → Counters → Durable
 state_for p c = record {
   tables = by_number p.tables;
   spaces = map (workspace_for p) p.spaces;
+  locks = [];
   next_stamp = c.next_stamp;
   last_moment = c.last_moment;
   limit = c.limit;

@@ -22,7 +22,7 @@ use Rattle.wm_state.proofs.Marking.{MarksStand-same}
 use Rattle.wm_state.proofs.Named.{version_below}
 use Rattle.wm_state.proofs.Naming.{Carries, Climbs-sprout, Covers-as, Framed, IsKeptOwn, IsMarked, IsNewest, IsNewestOwn, NamedStand-kept, Named-as, Owned-as, OwnsStand-kept, Tells-as, WasNamed, carries-more, climbs_kept, framed_same, named_framed, own_there, owns_framed, past_framed, stays-same, there_of}
 use Rattle.wm_state.proofs.Ready.{KeepReady, KeepReady-same}
-use Rattle.wm_state.proofs.Staying.{EntriesStand-same, LaterStand-same, RowsStand-alike, SameTurns, SameTurns-same, TouchesStand-same, TurnsStand-alike}
+use Rattle.wm_state.proofs.Staying.{EntriesStand-same, LocksStand-same, RowsStand-alike, SameTurns, SameTurns-same, TouchesStand-same, TurnsStand-alike}
 
 -- the newest version of a workspace is below what all versions are below
 pub latest-below : (n : ℕ) (nodes : List Node) (m : ℕ) → 0 < n → AllBelow n nodes → latest_in nodes m < n
@@ -188,8 +188,8 @@ FieldsStand-forked p q s t n number f st spaces tables counters = record {
 }
 
 -- the records stand for what they stood for, with counters of their own
-pub Stands-forked : (p q : Parts) (s t : Durable) (n number : ℕ) → Forked p q n number → Stands p s → t.spaces ≡ s.spaces → t.tables ≡ s.tables → CountersStand q t → keep_rules q ≡ true → Stands q t
-Stands-forked p q s t n number f st spaces tables counters rules = record {
+pub Stands-forked : (p q : Parts) (s t : Durable) (n number : ℕ) → Forked p q n number → Stands p s → t.spaces ≡ s.spaces → t.tables ≡ s.tables → t.locks ≡ s.locks → CountersStand q t → keep_rules q ≡ true → Stands q t
+Stands-forked p q s t n number f st spaces tables locks counters rules = record {
   rules = rules;
   counters = counters;
   tables = fields.tables;
@@ -201,7 +201,7 @@ Stands-forked p q s t n number f st spaces tables counters rules = record {
   turns = TurnsStand-alike p q s t (ap (λ (z : Parts). z.turns) f.rest) alike st.turns;
   touches = TouchesStand-same p q s t (ap (λ (z : Parts). z.touches) f.rest) spaces st.touches;
   marks = MarksStand-same p q s t (ap (λ (z : Parts). z.marks) f.rest) spaces st.marks;
-  later = LaterStand-same p q (ap (λ (z : Parts). z.locks) f.rest) st.later;
+  locks = LocksStand-same p q s t (ap (λ (z : Parts). z.locks) f.rest) locks st.locks;
   hists = HistsStand-frame p q s t (ap (λ (z : Parts). z.hists) f.rest) logs ready st.entries st.hists;
   entries = EntriesStand-same s t ready spaces st.entries;
   rows = RowsStand-alike p q s t (KeepRows-same p q (ap (λ (z : Parts). z.rows) f.rest)) ready logs alike st.entries st.rows;

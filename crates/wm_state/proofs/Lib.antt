@@ -53,3 +53,4 @@ pub mod RowsStay
 pub mod Drafted
 pub mod FieldsThere
 pub mod InOrder
+pub mod Locking

@@ -116,11 +116,11 @@ agree_created ss counters_id id old new t s u st sorted counters under may space
 
 -- and stand for it
 pub plan_created : (ss : List Stored) (counters_id id : ℕ) (old new : Counters) (t : Table) (s u : Durable) → Stands (parts_of ss) s → Ascend ss → record_at ss counters_id ≡ Some (records.Counters old)
-    → AllUnder id ss → MayCreate (parts_of ss) old new t → u.spaces ≡ s.spaces → u.tables ≡ s.tables ++ t ∷ [] → CountersStand (created (parts_of ss) new t) u
+    → AllUnder id ss → MayCreate (parts_of ss) old new t → u.spaces ≡ s.spaces → u.tables ≡ s.tables ++ t ∷ [] → u.locks ≡ s.locks → CountersStand (created (parts_of ss) new t) u
     → Stands (parts_of (applied (create_batch counters_id new id t) ss)) u
-plan_created ss counters_id id old new t s u st sorted counters under may spaces tables stands =
+plan_created ss counters_id id old new t s u st sorted counters under may spaces tables locks stands =
     subst (λ p. Stands p u) (sym (parts-created ss counters_id id old new t sorted counters may.one under))
-    (Stands-created (parts_of ss) old new t s u st may spaces tables stands)
+    (Stands-created (parts_of ss) old new t s u st may spaces tables locks stands)
 
 -- a table became ready: the records agree with the state whose table it is
 pub agree_readied : (ss : List Stored) (counters_id id : ℕ) (old new : Counters) (how : Readiness) (t : Table) (s u : Durable) → keep_rules (parts_of ss) ≡ true → FieldsStand (parts_of ss) s → Ascend ss
@@ -133,9 +133,9 @@ agree_readied ss counters_id id old new how t s u rules st sorted counters one f
 -- and stand for it
 pub plan_readied : (ss : List Stored) (counters_id id : ℕ) (old new : Counters) (how : Readiness) (t : Table) (s u : Durable) → Stands (parts_of ss) s → Ascend ss → record_at ss counters_id ≡ Some (records.Counters old)
     → (parts_of ss).counters ≡ old ∷ [] → record_at ss id ≡ Some (records.Table t) → t.versioned ≡ false → has_key t ≡ true → are_counters new ≡ true → new.next_version ≡ old.next_version → new.next_stamp ≡ old.next_stamp → old.work ≤ new.work → u.spaces ≡ s.spaces
-    → u.tables ≡ enabled t.number how s.tables → ((front back : List Table) → CountersStand (readied (parts_of ss) new front how t back) u)
+    → u.tables ≡ enabled t.number how s.tables → u.locks ≡ s.locks → ((front back : List Table) → CountersStand (readied (parts_of ss) new front how t back) u)
     → Stands (parts_of (applied (enable_batch counters_id new id how t) ss)) u
-plan_readied ss counters_id id old new how t s u st sorted counters one found off key counts versions stamps work spaces tables stands =
+plan_readied ss counters_id id old new how t s u st sorted counters one found off key counts versions stamps work spaces tables locks stands =
     let r = parts-readied ss counters_id id old new how t sorted counters one found in
     subst (λ p. Stands p u) (sym r.is)
     (Stands-readied (parts_of ss) new r.front how t r.back s u st r.old off key counts
@@ -145,7 +145,7 @@ plan_readied ss counters_id id old new how t s u st sorted counters one found of
       stamps ∙ ap (λ (k : Counters). k.next_stamp) same,
       subst (λ (k : Counters). k.work ≤ new.work) same work,
     ))
-    spaces tables (stands r.front r.back))
+    spaces tables locks (stands r.front r.back))
   where
     only : (a b : Counters) → (a ∷ []) ≡ (b ∷ []) → a ≡ b
     only a b h = cc

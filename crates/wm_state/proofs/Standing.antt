@@ -4,18 +4,18 @@ use Rattle.wm_graph.specs.Parts.{Parts}
 use Rattle.wm_graph.specs.Rules.{keep_rules}
 use Rattle.wm_spec.specs.Lists.{Entry}
 use Rattle.wm_state.specs.State.{Durable, workspace_of, savepoints_of, log_of}
-use Rattle.wm_state.specs.Standing.{latest, seen, seen_above, have_ends, Names, Newest, NamedStand, Owns, Own, Covers, OwnsStand, CountersStand, TablesStand, FieldsStand, Stands}
+use Rattle.wm_state.specs.Standing.{latest, seen, seen_above, have_ends, Names, Newest, NamedStand, Owns, Own, Covers, OwnsStand, CountersStand, LocksStand, TablesStand, FieldsStand, Stands}
 use Rattle.wm_state.proofs.Frames.{KeepRows, fields_stand, OnceStand-same, SavepointsStand-same}
 use Rattle.wm_state.proofs.Keeping.{KeepRows-same}
 use Rattle.wm_state.proofs.Logging.{HistsStand-frame}
 use Rattle.wm_state.proofs.Marking.{MarksStand-same}
 use Rattle.wm_state.proofs.Naming.{Framed, IsKeptOwn, IsMarked, IsNewest, IsNewestOwn, NamedStand-kept, Named-as, Owned-as, OwnsStand-kept, carries-same, framed_same, named_framed, owns_framed, past_framed, stays-same}
 use Rattle.wm_state.proofs.Ready.{KeepReady}
-use Rattle.wm_state.proofs.Staying.{EntriesStand-same, LaterStand-same, RowsStand-alike, SameTurns, SameTurns-same, TouchesStand-same, TurnsStand-alike}
+use Rattle.wm_state.proofs.Staying.{EntriesStand-same, RowsStand-alike, SameTurns, SameTurns-same, TouchesStand-same, TurnsStand-alike}
 
--- but for tables and counters all is as it was
+-- but for tables, locks and counters all is as it was
 pub record Retabled (p q : Parts) : Type 0 where
-  pub rest : record q { counters = p.counters; tables = p.tables } ≡ p
+  pub rest : record q { counters = p.counters; tables = p.tables; locks = p.locks } ≡ p
 
 module _ (p q : Parts) (s t : Durable) (r : Retabled p q) (spaces : t.spaces ≡ s.spaces) where
   -- the records agree with the state that they agreed with
@@ -58,8 +58,8 @@ module _ (p q : Parts) (s t : Durable) (r : Retabled p q) (spaces : t.spaces ≡
           Owned-as p s base version es _ _ _ h.under (h.over ∙ ap (λ (z : Parts). latest z h.number) r.rest) h.own (Own h.number h.now h.old (ap (λ ws. workspace_of ws h.number) (sym spaces) ∙ h.is) h.recorded))
 
   -- and stand for the state that they stood for, where the tables that were ready are so still
-  pub Stands-retabled : Stands p s → TablesStand q t → CountersStand q t → keep_rules q ≡ true → KeepReady s.tables t.tables → Stands q t
-  Stands-retabled st tables counters rules ready = record {
+  pub Stands-retabled : Stands p s → TablesStand q t → LocksStand q t → CountersStand q t → keep_rules q ≡ true → KeepReady s.tables t.tables → Stands q t
+  Stands-retabled st tables locks counters rules ready = record {
     rules = rules;
     counters = counters;
     tables = tables;
@@ -71,7 +71,7 @@ module _ (p q : Parts) (s t : Durable) (r : Retabled p q) (spaces : t.spaces ≡
     turns = TurnsStand-alike p q s t (ap (λ (z : Parts). z.turns) r.rest) alike st.turns;
     touches = TouchesStand-same p q s t (ap (λ (z : Parts). z.touches) r.rest) spaces st.touches;
     marks = MarksStand-same p q s t (ap (λ (z : Parts). z.marks) r.rest) spaces st.marks;
-    later = LaterStand-same p q (ap (λ (z : Parts). z.locks) r.rest) st.later;
+    locks = locks;
     hists = HistsStand-frame p q s t (ap (λ (z : Parts). z.hists) r.rest) logs ready st.entries st.hists;
     entries = EntriesStand-same s t ready spaces st.entries;
     rows = RowsStand-alike p q s t rows ready logs alike st.entries st.rows;

@@ -11,7 +11,7 @@ use Rattle.wm_spec.specs.Lists.{Entry}
 use Rattle.wm_spec.specs.declared.record.table.Table.{Table}
 use Rattle.wm_spec.specs.declared.record.trace.Trace.{Trace}
 use Rattle.wm_state.specs.State.{Durable, Workspace, Savepoint, Turn, workspace_of, with_space, savepoint_made, turn_of, turns_of, log_of}
-use Rattle.wm_state.specs.Standing.{EntriesStand, HasRows, IsReal, LaterStand, RowsStand, TouchesStand, TouchesTell, TurnsStand, turn_at, turned, turned_in}
+use Rattle.wm_state.specs.Standing.{EntriesStand, HasRows, IsReal, LocksStand, RowsStand, TouchesStand, TouchesTell, TurnsStand, locks_by_making, turn_at, turned, turned_in}
 use Rattle.wm_state.proofs.Changing.{workspace_of-changed}
 use Rattle.wm_state.proofs.Frames.{KeepRows, HasRows-kept}
 use Rattle.wm_state.proofs.Logging.{log_of-found, log_of-none, logs-kept}
@@ -139,10 +139,10 @@ pub TouchesStand-same : (p q : Parts) (s t : Durable) → q.touches ≡ p.touche
 TouchesStand-same p q s t touches spaces = TouchesStand-kept p q s t (λ n w is.
     inl (record { old = w; is = ap (λ ws. workspace_of ws n) (sym spaces) ∙ is; log = refl; place = refl; savepoints = refl }, λ below log tell. subst (λ xs. TouchesTell xs n below log) (sym touches) tell))
 
--- ---- what is not there yet
+-- ---- locks
 
-pub LaterStand-same : (p q : Parts) → q.locks ≡ p.locks → LaterStand p → LaterStand q
-LaterStand-same p q locks stand = record { locks = locks ∙ stand.locks }
+pub LocksStand-same : (p q : Parts) (s t : Durable) → q.locks ≡ p.locks → t.locks ≡ s.locks → LocksStand p s → LocksStand q t
+LocksStand-same p q s t recorded same stand = record { same = ap locks_by_making recorded ∙ stand.same ∙ sym same }
 
 -- ---- entries
 

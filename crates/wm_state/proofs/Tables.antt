@@ -16,6 +16,7 @@ use Rattle.wm_state.proofs.Standing.{FieldsStand-retabled, Stands-retabled}
 use Rattle.wm_state.proofs.Keeping.{KeepTables-push, KeepSpaces-same, KeepVersions-same, KeepRows-same, are_savepoints-kept, are_rows-kept, are_pieces-kept, are_hists-kept, few-same}
 use Rattle.wm_state.proofs.KeepingTurns.{are_locks-kept, are_marks-kept, are_touches-kept}
 use Rattle.wm_state.proofs.Ready.{KeepReady-push}
+use Rattle.wm_state.proofs.Staying.{LocksStand-same}
 
 -- ---- the tables by number
 
@@ -148,7 +149,7 @@ FieldsStand-created p old new t s u st may spaces tables counters =
     FieldsStand-retabled p (created p new t) s u (record { rest = refl }) spaces st (tables_created p old new t s u st.tables may tables) counters
 
 -- and stand for it
-pub Stands-created : (p : Parts) (old new : Counters) (t : Table) (s u : Durable) → Stands p s → MayCreate p old new t → u.spaces ≡ s.spaces → u.tables ≡ s.tables ++ t ∷ [] → CountersStand (created p new t) u
+pub Stands-created : (p : Parts) (old new : Counters) (t : Table) (s u : Durable) → Stands p s → MayCreate p old new t → u.spaces ≡ s.spaces → u.tables ≡ s.tables ++ t ∷ [] → u.locks ≡ s.locks → CountersStand (created p new t) u
     → Stands (created p new t) u
-Stands-created p old new t s u st may spaces tables counters =
-    Stands-retabled p (created p new t) s u (record { rest = refl }) spaces st (tables_created p old new t s u st.tables may tables) counters (keep-created p old new t may st.rules) (KeepReady-push s.tables u.tables t tables)
+Stands-created p old new t s u st may spaces tables locks counters =
+    Stands-retabled p (created p new t) s u (record { rest = refl }) spaces st (tables_created p old new t s u st.tables may tables) (LocksStand-same p (created p new t) s u refl locks st.locks) counters (keep-created p old new t may st.rules) (KeepReady-push s.tables u.tables t tables)

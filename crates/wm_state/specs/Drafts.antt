@@ -32,13 +32,14 @@ use Rattle.wm_spec.specs.declared.record.turn.Turn.{Turn}
 use Rattle.wm_state.specs.ById.{applied}
 use Rattle.wm_state.specs.Drawing.{are_sorted}
 use Rattle.wm_state.specs.Effects.{IsFree, IsLeaf}
-use Rattle.wm_state.specs.Editing.{counter_limit, drafted_by, entry_of, is_other, line_work, number_limit, settled_by, stand_of}
+use Rattle.wm_state.specs.Editing.{counter_limit, drafted_by, entry_of, is_other, number_limit, settled_by, stand_of, work_of}
 use Rattle.wm_state.specs.Entries.{AreStamped, entry_keys, is_well, pieces_of}
 use Rattle.wm_state.specs.Points.{HasRoom, Point, implicit_of, next_place_at, point_at}
 use Rattle.wm_state.specs.Standing.{FieldsStand, IsReal, Stands, by_number, has_history, latest, newest_first, owned, saved_as, space_after}
 use Rattle.wm_state.specs.State.{Durable, table_named}
 use Rattle.wm_state.specs.declared.edit.Edit.{Edit}
 use Rattle.wm_state.specs.declared.edit.NewEntry.{NewEntry}
+use Rattle.wm_state.specs.declared.edit.NewLock.{NewLock}
 use Rattle.wm_state.specs.declared.edit.NewMark.{NewMark}
 use Rattle.wm_state.specs.declared.edit.Edit.TheVariants as edits
 
@@ -245,6 +246,25 @@ pub record CanSettle (p : Parts) (n : ℕ) (ms : List NewMark) : Type 0 where
   pub sorted : are_in_order (map mark_entry ms) ≡ true
   pub apart : differ collide (map (mark_piece 0) ms) ≡ true
 
+-- the cells of a lock that is to be made
+abbrev pub cells_locked : NewLock → CellRange
+cells_locked x = record { table = x.table; key = x.key; from = x.period.from; till = x.period.till }
+
+-- the workspace is there, and the user is short; there are cells, of tables that are there, whose keys can be kept
+pub record CanLock (p : Parts) (n : ℕ) (user : List ℕ) (xs : List NewLock) : Type 0 where
+  pub space : Space
+  pub there : space_of p.spaces n ≡ Some space
+  pub some : nat_lt 0 (length xs) ≡ true
+  pub short : is_short user ≡ true
+  pub cells : list_all (λ (x : NewLock). are_cells (table_of p.tables) (cells_locked x)) xs ≡ true
+  pub kept : list_all (λ (x : NewLock). list_all can_keep x.key) xs ≡ true
+
+-- the workspace is there, and the one who may write in it is short
+pub record CanFreeze (p : Parts) (n : ℕ) (writer : List ℕ) : Type 0 where
+  pub space : Space
+  pub there : space_of p.spaces n ≡ Some space
+  pub short : is_short writer ≡ true
+
 -- what is asked before an edit at a moment
 abbrev pub CanEdit : Parts → ℕ → Edit → Type 0
 CanEdit p m (edits.Create t) = CanCreate p t
@@ -259,6 +279,9 @@ CanEdit p m (edits.Replay n entries) = CanReplay p n (map entry_of entries.items
 CanEdit p m (edits.Gain n entries) = CanGain p n (map entry_of entries.items)
 CanEdit p m (edits.Rebase n emptied) = CanRebase p n emptied
 CanEdit p m (edits.Settle n marks) = CanSettle p n marks.items
+CanEdit p m (edits.Lock n mode user cells) = CanLock p n user cells.items
+CanEdit p m (edits.Unlock makings) = Unit {0}
+CanEdit p m (edits.Freeze n mode writer) = CanFreeze p n writer
 
 -- ---- what is made of them
 
@@ -274,6 +297,9 @@ leaves_turns (edits.Keep n) = true
 leaves_turns (edits.Replay n entries) = true
 leaves_turns (edits.Gain n entries) = true
 leaves_turns (edits.Settle n marks) = true
+leaves_turns (edits.Lock n mode user cells) = true
+leaves_turns (edits.Unlock makings) = true
+leaves_turns (edits.Freeze n mode writer) = true
 leaves_turns e = false
 
 -- but for counters, workspaces, versions, savepoints and turns the records are what they were
@@ -324,7 +350,7 @@ pub record DraftsBy (work : ℕ) (rs : List Stored) (m : ℕ) (es : List Edit) (
 
 -- and with the work of a line
 abbrev pub Drafts : List Stored → ℕ → List Edit → List Change → Type 0
-Drafts rs m es changes = DraftsBy line_work rs m es changes
+Drafts rs m es changes = DraftsBy (work_of es) rs m es changes
 
 -- ---- what is asked before edits
 
@@ -340,7 +366,7 @@ edit_limit = 2048
 -- where a line makes edits, there is room for its work, they are not too many, and each can be made
 abbrev pub CanDraft : List Stored → ℕ → List Edit → Type 0
 CanDraft rs m [] = Unit {0}
-CanDraft rs m (e ∷ es) = CanWork (parts_of rs) m line_work × (length (e ∷ es) ≤ edit_limit) × CanEditAll rs m (e ∷ es)
+CanDraft rs m (e ∷ es) = CanWork (parts_of rs) m (work_of (e ∷ es)) × (length (e ∷ es) ≤ edit_limit) × CanEditAll rs m (e ∷ es)
 
 -- ---- changes behind others
 

@@ -1,17 +1,21 @@
 -- What edits make of the state.
-use Rattle.std.specs.Prelude.{ℕ, ◌+◌, ◌-◌, ◌^◌, ◌==◌, ◌&&◌, nat_le, nat_lt, not, Bool, true, false, if◌then◌else◌, List, [], ◌∷◌, ◌++◌, map, length, take, Option, Some, None, unwrap_or, codes}
-use Rattle.std.specs.List.{filter}
+use Rattle.std.specs.Prelude.{ℕ, ◌+◌, ◌-◌, ◌^◌, ◌==◌, ◌&&◌, ◌||◌, nat_le, nat_lt, not, Bool, true, false, if◌then◌else◌, List, [], ◌∷◌, ◌++◌, map, max, length, take, Option, Some, None, unwrap_or, codes}
+use Rattle.std.specs.List.{filter, list_any}
 use Rattle.std.specs.Fmt.{decimal}
-use Rattle.std.specs.Option.{option_map, option_and_then}
+use Rattle.std.specs.Option.{option_map, option_map_or, option_and_then}
 use Rattle.wm_base.specs.declared.row.Row.{Row}
 use Rattle.wm_base.specs.declared.value.Value.{Value}
 use Rattle.wm_net.specs.Conflicts.{Settled}
 use Rattle.wm_spec.specs.Lists.{Entry}
+use Rattle.wm_spec.specs.declared.record.lock.Lock.{Lock}
+use Rattle.wm_spec.specs.declared.record.lock.LockMode.{LockMode}
+use Rattle.wm_spec.specs.declared.record.space.FreezeMode.{FreezeMode}
 use Rattle.wm_spec.specs.declared.record.space.FreezeMode.TheVariants.{Free}
 use Rattle.wm_spec.specs.declared.record.table.Table.{Table}
 use Rattle.wm_state.specs.declared.edit.Edit.{Edit}
 use Rattle.wm_state.specs.declared.edit.Edit.TheVariants as edits
 use Rattle.wm_state.specs.declared.edit.NewEntry.{NewEntry}
+use Rattle.wm_state.specs.declared.edit.NewLock.{NewLock}
 use Rattle.wm_state.specs.declared.edit.NewMark.{NewMark}
 use Rattle.wm_state.specs.State.{Durable, Workspace, Savepoint, Turn, Stand, Latest, At, Readiness, content, kept, enabled, with_space, with_entries, with_gained, with_savepoint, workspace_of, savepoints_of, savepoint_made, table_named, next_making, next_space}
 
@@ -25,7 +29,7 @@ counter_limit = 2 ^ 62
 abbrev pub number_limit : ℕ
 number_limit = 4294967295
 
--- what a line that changes something counts
+-- what a line that changes something counts, but for the locks that it makes
 abbrev pub line_work : ℕ
 line_work = 4096
 
@@ -150,9 +154,13 @@ restored k w = record w {
   settled = filter (is_settled_below k.place) w.settled;
 }
 
--- the workspace of this number is as it was at a savepoint
+-- a lock that stays where a workspace goes back to a place: it was made before that; so does each of another workspace
+abbrev pub stays_held : ℕ → ℕ → Lock → Bool
+stays_held n place x = not (x.space == n) || nat_lt x.place place
+
+-- the workspace of this number is as it was at a savepoint, and the locks that were set there since are gone
 abbrev pub restored_in : ℕ → Durable → Savepoint → Durable
-restored_in n s k = record s { spaces = with_space n (restored k) s.spaces }
+restored_in n s k = record s { spaces = with_space n (restored k) s.spaces; locks = filter (stays_held n k.place) s.locks }
 
 -- a workspace of this number is another one than the one that goes
 abbrev pub is_other : ℕ → ℕ → Bool
@@ -161,6 +169,10 @@ is_other n number = not (number == n)
 -- the workspaces without one
 abbrev pub without : ℕ → List Workspace → List Workspace
 without n = filter (λ (w : Workspace). is_other n w.number)
+
+-- the locks without those of one
+abbrev pub unlocked_of : ℕ → List Lock → List Lock
+unlocked_of n = filter (λ (x : Lock). is_other n x.space)
 
 -- ---- what is merged
 
@@ -220,6 +232,55 @@ with_marks ms w = record w { settled = w.settled ++ map (settled_by (w.next_plac
 abbrev pub settled_in : ℕ → List NewMark → Durable → Durable
 settled_in n ms s = record s { spaces = with_space n (with_marks ms) s.spaces }
 
+-- ---- locks
+
+-- one more than the greatest making of a lock, 1 where there is none
+abbrev pub lock_after : List Lock → ℕ
+lock_after [] = 1
+lock_after (x ∷ xs) = max (x.making + 1) (lock_after xs)
+
+-- a lock on cells, made at a place of a workspace
+abbrev pub lock_made : ℕ → ℕ → LockMode → List ℕ → ℕ → NewLock → Lock
+lock_made n place mode user making x = record {
+  space = n;
+  place = place;
+  cells = record { table = x.table; key = x.key; from = x.period.from; till = x.period.till };
+  mode = mode;
+  user = user;
+  making = making;
+}
+
+-- one for each of these cells, whose makings follow one another
+abbrev pub locks_made : ℕ → ℕ → LockMode → List ℕ → ℕ → List NewLock → List Lock
+locks_made n place mode user making [] = []
+locks_made n place mode user making (x ∷ xs) = lock_made n place mode user making x ∷ locks_made n place mode user (making + 1) xs
+
+-- the place that was given last in the workspace of this number
+abbrev pub last_place : List Workspace → ℕ → ℕ
+last_place spaces n = option_map_or (λ (w : Workspace). w.next_place - 1) (workspace_of spaces n) 0
+
+-- cells are locked in the workspace of this number
+abbrev pub locked_in : ℕ → LockMode → List ℕ → List NewLock → Durable → Durable
+locked_in n mode user xs s = record s { locks = s.locks ++ locks_made n (last_place s.spaces n) mode user (lock_after s.locks) xs }
+
+-- a lock is of none of these makings
+abbrev pub stays_locked : List ℕ → Lock → Bool
+stays_locked makings x = not (list_any (λ making. making == x.making) makings)
+
+-- the locks of these makings are gone
+abbrev pub unlocked : List ℕ → Durable → Durable
+unlocked makings s = record s { locks = filter (stays_locked makings) s.locks }
+
+-- ---- freezes
+
+-- a workspace is frozen so, or is free
+abbrev pub frozen : FreezeMode → List ℕ → Workspace → Workspace
+frozen mode writer w = record w { freeze = mode; writer = writer }
+
+-- the workspace of this number is
+abbrev pub frozen_in : ℕ → FreezeMode → List ℕ → Durable → Durable
+frozen_in n mode writer s = record s { spaces = with_space n (frozen mode writer) s.spaces }
+
 -- ---- edits
 
 -- at what is newest, or at the savepoint of a making
@@ -240,12 +301,15 @@ edited m (edits.Append n entries) s = written_all n (map entry_of entries.items)
 edited m (edits.Save n name) s = unwrap_or (option_and_then (save_in m name s) (workspace_of s.spaces n)) s
 edited m (edits.Bear n at name) s = unwrap_or (option_and_then (bear_in m (stand_of at) name s) (workspace_of s.spaces n)) s
 edited m (edits.Restore n making) s = unwrap_or (option_map (restored_in n s) (savepoint_made making (savepoints_of s.spaces n))) s
-edited m (edits.Remove n) s = record s { spaces = without n s.spaces }
+edited m (edits.Remove n) s = record s { spaces = without n s.spaces; locks = unlocked_of n s.locks }
 edited m (edits.Keep n) s = kept_in m n s
 edited m (edits.Replay n entries) s = replayed_in n (map entry_of entries.items) s
 edited m (edits.Gain n entries) s = gained_in n (map entry_of entries.items) s
 edited m (edits.Rebase n emptied) s = rebased_so n emptied s
 edited m (edits.Settle n marks) s = settled_in n marks.items s
+edited m (edits.Lock n mode user cells) s = locked_in n mode user cells.items s
+edited m (edits.Unlock makings) s = unlocked makings.items s
+edited m (edits.Freeze n mode writer) s = frozen_in n mode writer s
 
 -- and what edits make of it in their order
 abbrev pub all_edited : ℕ → List Edit → Durable → Durable
@@ -257,6 +321,20 @@ abbrev pub drafted_by : ℕ → ℕ → List Edit → Durable → Durable
 drafted_by work m [] s = s
 drafted_by work m (e ∷ es) s = record (all_edited m (e ∷ es) s) { last_moment = m; work = s.work + work }
 
+-- how many locks an edit makes
+abbrev pub locks_by : Edit → ℕ
+locks_by (edits.Lock n mode user cells) = length cells.items
+locks_by e = 0
+
+-- and how many edits make
+abbrev pub locks_in : List Edit → ℕ
+locks_in [] = 0
+locks_in (e ∷ es) = locks_by e + locks_in es
+
+-- what a line counts that makes edits
+abbrev pub work_of : List Edit → ℕ
+work_of es = locks_in es + line_work
+
 -- and once a line has made them
 abbrev pub drafted : ℕ → List Edit → Durable → Durable
-drafted m es s = drafted_by line_work m es s
+drafted m es s = drafted_by (work_of es) m es s

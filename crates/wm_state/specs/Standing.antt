@@ -18,6 +18,7 @@ use Rattle.wm_spec.specs.Lists.{Cell, Entry, Told, covers, reach, told, touched}
 use Rattle.wm_spec.specs.declared.record.cell_range.CellRange.{CellRange}
 use Rattle.wm_spec.specs.declared.record.counters.Counters.{Counters}
 use Rattle.wm_spec.specs.declared.record.hist.Hist.{Hist}
+use Rattle.wm_spec.specs.declared.record.lock.Lock.{Lock}
 use Rattle.wm_spec.specs.declared.record.piece.PieceRecord.{PieceRecord}
 use Rattle.wm_spec.specs.declared.record.row.RowRecord.{RowRecord}
 use Rattle.wm_spec.specs.declared.record.space.FreezeMode.{FreezeMode}
@@ -416,9 +417,20 @@ pub record MarksStand (p : Parts) (d : Durable) : Type 0 where
   pub same : (n : ℕ) (w : Workspace) (place : ℕ) (c : Cell) → workspace_of d.spaces n ≡ Some w → marked_at p.marks n place c ≡ settled_from w.settled place c
   pub real : (n : ℕ) (w : Workspace) → workspace_of d.spaces n ≡ Some w → All IsRealMark w.settled
 
--- nothing is locked
-pub record LaterStand (p : Parts) : Type 0 where
-  pub locks : p.locks ≡ []
+-- ---- locks
+
+-- locks by making
+abbrev pub place_lock : Lock → List Lock → List Lock
+place_lock x [] = x ∷ []
+place_lock x (y ∷ ys) = if nat_lt y.making x.making then y ∷ place_lock x ys else x ∷ y ∷ ys
+
+abbrev pub locks_by_making : List Lock → List Lock
+locks_by_making [] = []
+locks_by_making (x ∷ xs) = place_lock x (locks_by_making xs)
+
+-- the records of locks, by making, are the locks
+pub record LocksStand (p : Parts) (s : Durable) : Type 0 where
+  pub same : locks_by_making p.locks ≡ s.locks
 
 -- ---- logs
 
@@ -474,7 +486,7 @@ pub record Stands (p : Parts) (s : Durable) : Type 0 where
   pub turns : TurnsStand p s
   pub touches : TouchesStand p s
   pub marks : MarksStand p s
-  pub later : LaterStand p
+  pub locks : LocksStand p s
   pub hists : HistsStand p s
   pub entries : EntriesStand s
   pub rows : RowsStand p s

@@ -7,6 +7,7 @@ use Rattle.wm_base.specs.declared.value.Value.{Value}
 use Rattle.wm_net.specs.Conflicts.{Settled}
 use Rattle.wm_net.specs.Listed.{Stretch}
 use Rattle.wm_spec.specs.Lists.{Entry, Told}
+use Rattle.wm_spec.specs.declared.record.lock.Lock.{Lock}
 use Rattle.wm_spec.specs.declared.record.space.FreezeMode.{FreezeMode}
 use Rattle.wm_spec.specs.declared.record.space.FreezeMode.TheVariants.{Free}
 use Rattle.wm_spec.specs.declared.record.table.Table.{Table}
@@ -81,7 +82,8 @@ pub record Resolve : Type 0 where
   pub decisions : List Decision
 
 -- space: the number of its workspace; period: the one that SetValidTime set for it, in which it sees rows and changes them; conflict:
--- the name of the workspace whose conflicts it looks at, which SetConflictWorkspace set for it; resolve: what BeginResolve opened
+-- the name of the workspace whose conflicts it looks at, which SetConflictWorkspace set for it; resolve: what BeginResolve opened;
+-- freezes: the numbers of the workspaces that it froze for itself alone
 pub record Session : Type 0 where
   pub name : List ℕ
   pub user : List ℕ
@@ -90,13 +92,15 @@ pub record Session : Type 0 where
   pub period : Option Span
   pub conflict : Option (List ℕ)
   pub resolve : Option Resolve
+  pub freezes : List ℕ
 
 -- the part of the state that a store keeps: tables in the order of their making; workspaces by number; next_stamp: the stamp that
 -- the next change gets; limit: the greatest stamp that a change may get; last_moment: that of the last line that changed something
--- here; work: what these lines have counted
+-- here; work: what these lines have counted; locks: of all workspaces, in the order of their making
 pub record Durable : Type 0 where
   pub tables : List Table
   pub spaces : List Workspace
+  pub locks : List Lock
   pub next_stamp : ℕ
   pub last_moment : ℕ
   pub limit : ℕ
@@ -142,7 +146,7 @@ fresh_live = record {
 -- a store that takes this many changes, before its first line
 unfoldable pub fresh : ℕ → State
 fresh limit = record {
-  durable = record { tables = []; spaces = fresh_live ∷ []; next_stamp = 1; last_moment = 0; limit = limit; work = 0 };
+  durable = record { tables = []; spaces = fresh_live ∷ []; locks = []; next_stamp = 1; last_moment = 0; limit = limit; work = 0 };
   sessions = [];
   moment = 0;
 }

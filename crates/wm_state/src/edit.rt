@@ -1,6 +1,6 @@
 //! What a line makes of the state: its edits.
 use wm_base::{Key, Kind, Name, Period, Values};
-use wm_spec::record::Table;
+use wm_spec::record::{FreezeMode, LockMode, Table};
 
 /// What a line that makes edits adds to the work of a store.
 pub const LINE_WORK: u64 = 4_096;
@@ -29,6 +29,14 @@ pub struct NewMark {
     pub key: Key,
     pub period: Period,
     pub position: u64,
+}
+
+/// Cells of a key that are locked.
+#[derive(Drop)]
+pub struct NewLock {
+    pub table: u16,
+    pub key: Key,
+    pub period: Period,
 }
 
 /// One change of the state.
@@ -92,5 +100,22 @@ pub enum Edit {
     Settle {
         space: u32,
         marks: Vec<NewMark>,
+    },
+    /// Cells are locked in a workspace by a user, a lock for each.
+    Lock {
+        space: u32,
+        mode: LockMode,
+        user: Name,
+        cells: Vec<NewLock>,
+    },
+    /// The locks of these makings go.
+    Unlock {
+        makings: Vec<u64>,
+    },
+    /// A workspace is frozen so, with the one who may write then, or is free again.
+    Freeze {
+        space: u32,
+        mode: FreezeMode,
+        writer: Name,
     },
 }

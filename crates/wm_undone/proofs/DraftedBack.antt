@@ -1,7 +1,7 @@
 -- What the batch of a workspace that goes back to a savepoint makes of the records.
 use Rattle.std.proofs.Common.{◌≡◌, ℕ, ◌+◌, nat_lt, true, List, [], ◌∷◌, ◌++◌, map, Some, is_some, refl, sym, ap, subst, ◌∙◌}
 use Rattle.std.proofs.lemmas.Bool.{ne_eqb, and_from, lt-ltb, true≢false}
-use Rattle.std.specs.List.{list_all}
+use Rattle.std.specs.List.{filter, list_all}
 use Rattle.std.specs.Option.{option_map, unwrap_or}
 use Rattle.std.specs.declared.alloc.Global.{Global}
 use Rattle.std.specs.declared.vec.Vec.{Vec}
@@ -35,7 +35,7 @@ use Rattle.wm_state.proofs.Spaces.{SpaceIs, space_there}
 use Rattle.wm_state.proofs.WorkedOn.{counted_put, first_change}
 use Rattle.wm_written.proofs.Ids.{are_under}
 use Rattle.wm_written.proofs.DraftedWritten.{all_below, two_before}
-use Rattle.wm_undone.specs.Restoring.{GoesBack, keeps_back, restore_batch, restored, restored_to}
+use Rattle.wm_undone.specs.Restoring.{GoesBack, keeps_back, restore_batch, restored, restored_to, stays_held}
 use Rattle.wm_undone.proofs.Dropped.{kept_behind}
 use Rattle.wm_undone.proofs.RestoringBatch.{agree_back, changes-back, keep_plan_back, plan_back}
 use Rattle.wm_undone.proofs.RestoringKept.{MayGoBack}
@@ -87,7 +87,7 @@ drafts_restored rs m work n making c a x counters_id space_id id ids rules can_w
       let h = stood (parts_of rs) s n making a x rules st.spaces st.savepoints there saved based in
       let counts = counts_as (parts_of rs) s c st one in
       subst (λ (u : Durable). Stands (parts_of (applied batch rs)) (record u { last_moment = m; work = s.work + work })) (sym (restored_so (parts_of rs) m n making s x h))
-      (plan_back rs counters_id space_id id c d a making y x ids at are may h.workspace h.savepoint s _ st (goes_there s h) (ap (λ i. with_space i (restored h.savepoint) s.spaces) (sym in_it)) refl
+      (plan_back rs counters_id space_id id c d a making y x ids at are may h.workspace h.savepoint s _ st (goes_there s h) (ap (λ i. with_space i (restored h.savepoint) s.spaces) (sym in_it)) refl (ap (λ i. filter (stays_held i h.savepoint.place) s.locks) (sym in_it))
       (record { counters = d; one = refl; next_stamp = counts.next_stamp; last_moment = refl; limit = counts.limit; work = ap (λ w. w + work) counts.work }));
   fields = λ s st.
       let h = stood (parts_of rs) s n making a x rules st.spaces st.savepoints there saved based in

@@ -36,7 +36,7 @@ drafts_removed rs m work n c counters_id ids rules can_work one can there sorted
   once = once;
   stands = λ s st.
       let counts = counts_as (parts_of rs) s c st one in
-      plan_removed rs n counters_id c d ids goes can s (drafted_by work m (edits.Remove n ∷ []) s) st on refl refl
+      plan_removed rs n counters_id c d ids goes can s (drafted_by work m (edits.Remove n ∷ []) s) st on refl refl refl
       (record { counters = d; one = refl; next_stamp = counts.next_stamp; last_moment = refl; limit = counts.limit; work = ap (λ w. w + work) counts.work });
   fields = λ s st.
       let counts = counts_in (parts_of rs) s c st.counters one in

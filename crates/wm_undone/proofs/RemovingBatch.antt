@@ -26,6 +26,7 @@ use Rattle.wm_state.proofs.ByKind.{stored}
 use Rattle.wm_state.proofs.Planned.{counted}
 use Rattle.wm_state.proofs.Planning.{recounted}
 use Rattle.wm_written.proofs.Dropping.{dropped, dropped-set}
+use Rattle.wm_state.specs.Editing.{unlocked_of}
 use Rattle.wm_undone.specs.Removing.{CanRemove, Thinned, is_other, is_others, keeps_without, parts_without, remove_batch, without}
 use Rattle.wm_undone.proofs.RemovingKept.{CountsOn, keep-thinned}
 use Rattle.wm_undone.proofs.RemovingRecords.{thinned}
@@ -163,7 +164,7 @@ module _ (ss : List Stored) (n counters_id : ℕ) (old new : Counters) (ids : Li
   agree_removed s u rules st spaces tables stands = FieldsStand-removed (parts_of ss) (parts_of (applied (remove_batch counters_id new ids) ss)) s u n thinned_of rules st spaces tables (counted_still u stands)
 
   -- and stand for it
-  pub plan_removed : (s u : Durable) → Stands (parts_of ss) s → CountsOn (parts_of ss) old new → u.spaces ≡ without n s.spaces → u.tables ≡ s.tables → CountersStand (recounted (parts_of ss) new) u
+  pub plan_removed : (s u : Durable) → Stands (parts_of ss) s → CountsOn (parts_of ss) old new → u.spaces ≡ without n s.spaces → u.tables ≡ s.tables → u.locks ≡ unlocked_of n s.locks → CountersStand (recounted (parts_of ss) new) u
       → Stands (parts_of (applied (remove_batch counters_id new ids) ss)) u
-  plan_removed s u st on spaces tables stands =
-      Stands-removed (parts_of ss) (parts_of (applied (remove_batch counters_id new ids) ss)) s u n thinned_of st spaces tables (counted_still u stands) (keep_plan_removed on st.rules)
+  plan_removed s u st on spaces tables locks stands =
+      Stands-removed (parts_of ss) (parts_of (applied (remove_batch counters_id new ids) ss)) s u n thinned_of st spaces tables locks (counted_still u stands) (keep_plan_removed on st.rules)

@@ -15,13 +15,16 @@ use Rattle.wm_spec.specs.declared.record.table.Table.{Table}
 use Rattle.wm_spec.specs.declared.record.trace.Trace.{Trace}
 use Rattle.wm_spec.specs.declared.record.turn.Turn.{Turn as TurnRecord}
 use Rattle.wm_state.specs.State.{Durable, Workspace, log_of, turns_of, workspace_of}
-use Rattle.wm_state.specs.Standing.{CountersStand, EntriesStand, FieldsStand, HistsStand, LaterStand, Logged, MarksStand, RowsStand, Stands, TouchesStand, TouchesTell, TurnsStand, has_history, hist_at, logged, logged_as, turn_at, turned, turned_in}
+use Rattle.wm_state.specs.Standing.{CountersStand, EntriesStand, FieldsStand, HistsStand, LocksStand, Logged, MarksStand, RowsStand, Stands, TouchesStand, TouchesTell, TurnsStand, has_history, hist_at, logged, logged_as, turn_at, turned, turned_in}
 use Rattle.wm_state.proofs.Frames.{KeepRows, fields_stand}
 use Rattle.wm_state.proofs.Keeping.{KeepRows-same}
 use Rattle.wm_state.proofs.Logging.{HaveRows, log_of-none, log_of-same, rows-kept}
 use Rattle.wm_state.proofs.Marking.{MarksStand-kept}
 use Rattle.wm_state.proofs.Ready.{KeepReady, KeepReady-same}
 use Rattle.wm_state.proofs.Staying.{AreReal-same, EntriesStand-kept, entries_real, turns_of-none}
+use Rattle.wm_spec.specs.declared.record.lock.Lock.{Lock}
+use Rattle.wm_state.specs.Editing.{unlocked_of}
+use Rattle.wm_state.proofs.Locking.{locks-filter}
 use Rattle.wm_undone.specs.Removing.{CanRemove, Thinned, is_other, without}
 use Rattle.wm_undone.specs.Restoring.{stays_touched}
 use Rattle.wm_undone.proofs.Marked.{marked-filter}
@@ -75,7 +78,7 @@ module _ (p : Parts) (s t : Durable) (n : ℕ) (counters : List Counters) (may :
           ∙ stand.same m number
           ∙ ap (λ ts. option_map turned_in (slice_get ts number)) (sym (turns_of-same t.spaces s.spaces m (found_away p s t n counters may rules spaces m away)))
 
-  -- ---- touches, marks, and what is not there yet
+  -- ---- touches, marks and locks
 
   TouchesStand-removed : TouchesStand p s → TouchesStand (thinned p n counters) t
   TouchesStand-removed stand = record {
@@ -93,8 +96,8 @@ module _ (p : Parts) (s t : Durable) (n : ℕ) (counters : List Counters) (may :
       ))
       stand
 
-  LaterStand-removed : LaterStand p → LaterStand (thinned p n counters)
-  LaterStand-removed stand = record { locks = ap (filter _) stand.locks }
+  LocksStand-removed : t.locks ≡ unlocked_of n s.locks → LocksStand p s → LocksStand (thinned p n counters) t
+  LocksStand-removed locks stand = record { same = locks-filter (λ (x : Lock). is_other n x.space) p.locks ∙ ap (unlocked_of n) stand.same ∙ sym locks }
 
   -- ---- logs
 
@@ -141,8 +144,8 @@ module _ (p : Parts) (s t : Durable) (n : ℕ) (counters : List Counters) (may :
 
   -- ---- all of it
 
-  pub Stands-thinned : Stands p s → CountersStand (thinned p n counters) t → keep_rules (thinned p n counters) ≡ true → Stands (thinned p n counters) t
-  Stands-thinned st counted kept = record {
+  pub Stands-thinned : Stands p s → t.locks ≡ unlocked_of n s.locks → CountersStand (thinned p n counters) t → keep_rules (thinned p n counters) ≡ true → Stands (thinned p n counters) t
+  Stands-thinned st locks counted kept = record {
     rules = kept;
     counters = counted;
     tables = fields.tables;
@@ -154,7 +157,7 @@ module _ (p : Parts) (s t : Durable) (n : ℕ) (counters : List Counters) (may :
     turns = TurnsStand-removed st.turns;
     touches = TouchesStand-removed st.touches;
     marks = MarksStand-removed st.marks;
-    later = LaterStand-removed st.later;
+    locks = LocksStand-removed locks st.locks;
     hists = HistsStand-removed st.hists;
     entries = EntriesStand-removed st.entries;
     rows = RowsStand-removed st.entries st.rows;
@@ -173,8 +176,8 @@ FieldsStand-removed p q s t n v rules st spaces tables counters =
     let same = are_thinned p q n v in
     subst (λ (z : Parts). FieldsStand z t) same (FieldsStand-thinned p s t n q.counters v.may rules spaces st tables (subst (λ (z : Parts). CountersStand z t) (sym same) counters))
 
-pub Stands-removed : (p q : Parts) (s t : Durable) (n : ℕ) → Thinned p q n → Stands p s → t.spaces ≡ without n s.spaces → t.tables ≡ s.tables → CountersStand q t → keep_rules q ≡ true → Stands q t
-Stands-removed p q s t n v st spaces tables counters rules =
+pub Stands-removed : (p q : Parts) (s t : Durable) (n : ℕ) → Thinned p q n → Stands p s → t.spaces ≡ without n s.spaces → t.tables ≡ s.tables → t.locks ≡ unlocked_of n s.locks → CountersStand q t → keep_rules q ≡ true → Stands q t
+Stands-removed p q s t n v st spaces tables locks counters rules =
     let same = are_thinned p q n v in
     subst (λ (z : Parts). Stands z t) same
-    (Stands-thinned p s t n q.counters v.may st.rules spaces tables st (subst (λ (z : Parts). CountersStand z t) (sym same) counters) (ap keep_rules same ∙ rules))
+    (Stands-thinned p s t n q.counters v.may st.rules spaces tables st locks (subst (λ (z : Parts). CountersStand z t) (sym same) counters) (ap keep_rules same ∙ rules))

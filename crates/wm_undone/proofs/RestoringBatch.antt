@@ -10,6 +10,7 @@ use Rattle.wm_spec.specs.declared.record.stored.Stored.{Stored}
 use Rattle.wm_spec.specs.declared.record.batch.Change.{Change}
 use Rattle.wm_spec.specs.declared.record.counters.Counters.{Counters}
 use Rattle.wm_spec.specs.declared.record.hist.Hist.{Hist}
+use Rattle.wm_spec.specs.declared.record.lock.Lock.{Lock}
 use Rattle.wm_spec.specs.declared.record.savepoint.Savepoint.{Savepoint as Point}
 use Rattle.wm_spec.specs.declared.record.space.Space.{Space}
 use Rattle.wm_spec.specs.declared.record.trace.Trace.{Trace}
@@ -26,14 +27,14 @@ use Rattle.wm_state.proofs.Settled.{Places}
 use Rattle.wm_forked.proofs.PlannedSaved.{more_version}
 use Rattle.wm_written.proofs.Dropping.{dropped, dropped-set}
 use Rattle.wm_written.proofs.Ids.{are_under, ids_differ-push, ids_of-dropped}
-use Rattle.wm_undone.specs.Restoring.{GoesBack, keeps_back, restore_batch, restored, restored_to, stays_logged, stays_marked, stays_saved, stays_touched}
+use Rattle.wm_undone.specs.Restoring.{GoesBack, keeps_back, restore_batch, restored, restored_to, stays_logged, stays_marked, stays_saved, stays_touched, stays_held}
 use Rattle.wm_undone.proofs.RestoringKept.{FieldsStand-back, MayGoBack, Stands-back, gone_back, keep-restored}
 
 -- ---- what the test keeps
 
 -- the parts without the savepoints, touches, marks and entries that go
 parts-stay : (x : Point) (ss : List Stored) → parts_of (filter (λ (s : Stored). keeps_back x s.record) ss)
-    ≡ record (parts_of ss) { savepoints = filter (stays_saved x) (parts_of ss).savepoints; touches = filter (stays_touched x.space x.place x.log_length) (parts_of ss).touches; marks = filter (stays_marked x.space x.place) (parts_of ss).marks; hists = filter (stays_logged x.space x.log_length) (parts_of ss).hists }
+    ≡ record (parts_of ss) { savepoints = filter (stays_saved x) (parts_of ss).savepoints; touches = filter (stays_touched x.space x.place x.log_length) (parts_of ss).touches; marks = filter (stays_marked x.space x.place) (parts_of ss).marks; locks = filter (stays_held x.space x.place) (parts_of ss).locks; hists = filter (stays_logged x.space x.log_length) (parts_of ss).hists }
 unfolding parts_of
 parts-stay x [] = refl
 parts-stay x (s ∷ ss) = by_record s.record (parts-stay x ss)
@@ -42,7 +43,7 @@ parts-stay x (s ∷ ss) = by_record s.record (parts-stay x ss)
     rest = filter (λ (s : Stored). keeps_back x s.record) ss
 
     after : Parts → Parts
-    after p = record p { savepoints = filter (stays_saved x) p.savepoints; touches = filter (stays_touched x.space x.place x.log_length) p.touches; marks = filter (stays_marked x.space x.place) p.marks; hists = filter (stays_logged x.space x.log_length) p.hists }
+    after p = record p { savepoints = filter (stays_saved x) p.savepoints; touches = filter (stays_touched x.space x.place x.log_length) p.touches; marks = filter (stays_marked x.space x.place) p.marks; locks = filter (stays_held x.space x.place) p.locks; hists = filter (stays_logged x.space x.log_length) p.hists }
 
     by_savepoint : (y : Point) → parts_of rest ≡ after (parts_of ss) → (b : Bool)
         → parts_of (cond b (stored s.id (records.Savepoint y) ∷ rest) rest) ≡ record (after (parts_of ss)) { savepoints = cond b (y ∷ (after (parts_of ss)).savepoints) (after (parts_of ss)).savepoints }
@@ -58,6 +59,11 @@ parts-stay x (s ∷ ss) = by_record s.record (parts-stay x ss)
         → parts_of (cond b (stored s.id (records.Mark y) ∷ rest) rest) ≡ record (after (parts_of ss)) { marks = cond b (y ∷ (after (parts_of ss)).marks) (after (parts_of ss)).marks }
     by_mark y same true = ap (λ (p : Parts). record p { marks = y ∷ p.marks }) same
     by_mark y same false = same
+
+    by_lock : (y : Lock) → parts_of rest ≡ after (parts_of ss) → (b : Bool)
+        → parts_of (cond b (stored s.id (records.Lock y) ∷ rest) rest) ≡ record (after (parts_of ss)) { locks = cond b (y ∷ (after (parts_of ss)).locks) (after (parts_of ss)).locks }
+    by_lock y same true = ap (λ (p : Parts). record p { locks = y ∷ p.locks }) same
+    by_lock y same false = same
 
     by_hist : (y : Hist) → parts_of rest ≡ after (parts_of ss) → (b : Bool)
         → parts_of (cond b (stored s.id (records.Hist y) ∷ rest) rest) ≡ record (after (parts_of ss)) { hists = cond b (y ∷ (after (parts_of ss)).hists) (after (parts_of ss)).hists }
@@ -75,7 +81,7 @@ parts-stay x (s ∷ ss) = by_record s.record (parts-stay x ss)
     by_record (records.Space y) same = ap (λ (p : Parts). record p { spaces = y ∷ p.spaces }) same
     by_record (records.Version y) same = ap (λ (p : Parts). record p { versions = y ∷ p.versions }) same
     by_record (records.Row y) same = ap (λ (p : Parts). record p { rows = y ∷ p.rows }) same
-    by_record (records.Lock y) same = ap (λ (p : Parts). record p { locks = y ∷ p.locks }) same
+    by_record (records.Lock y) same = by_lock y same (stays_held x.space x.place y)
     by_record (records.Turn y) same = ap (λ (p : Parts). record p { turns = y ∷ p.turns }) same
 
 -- ---- what the batch makes of the records
@@ -145,6 +151,7 @@ parts-back ss counters_id space_id id old new a y x ids at are = by_split (split
                 savepoints = filter (stays_saved x) p.savepoints;
                 touches = filter (stays_touched x.space x.place x.log_length) p.touches;
                 marks = filter (stays_marked x.space x.place) p.marks;
+                locks = filter (stays_held x.space x.place) p.locks;
                 hists = filter (stays_logged x.space x.log_length) p.hists;
               }) parts_second;
         }
@@ -183,7 +190,7 @@ module _ (ss : List Stored) (counters_id space_id id : ℕ) (old new : Counters)
       subst (λ p. FieldsStand p u) (sym its.is) (FieldsStand-back (parts_of ss) old new its.front a its.back making y x w k s u rules st (may its.front its.back its.old) g spaces tables (counted_still u stands))
 
   -- and stand for it
-  pub plan_back : (w : Workspace) (k : Savepoint) (s u : Durable) → Stands (parts_of ss) s → GoesBack (parts_of ss) s x.space making w k x → u.spaces ≡ with_space x.space (restored k) s.spaces → u.tables ≡ s.tables
+  pub plan_back : (w : Workspace) (k : Savepoint) (s u : Durable) → Stands (parts_of ss) s → GoesBack (parts_of ss) s x.space making w k x → u.spaces ≡ with_space x.space (restored k) s.spaces → u.tables ≡ s.tables → u.locks ≡ filter (stays_held x.space k.place) s.locks
       → CountersStand (recounted (parts_of ss) new) u → Stands (parts_of (applied (restore_batch counters_id new space_id (restored_to x a) ids id y) ss)) u
-  plan_back w k s u st g spaces tables stands =
-      subst (λ p. Stands p u) (sym its.is) (Stands-back (parts_of ss) old new its.front a its.back making y x w k s u st (may its.front its.back its.old) g spaces tables (counted_still u stands))
+  plan_back w k s u st g spaces tables locks stands =
+      subst (λ p. Stands p u) (sym its.is) (Stands-back (parts_of ss) old new its.front a its.back making y x w k s u st (may its.front its.back its.old) g spaces tables locks (counted_still u stands))

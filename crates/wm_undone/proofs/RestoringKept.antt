@@ -24,7 +24,7 @@ use Rattle.wm_state.proofs.Respaced.{space_elsewhere, space_here}
 use Rattle.wm_state.proofs.Tests.{all_if, all_middle, all_push, all_swap, differ_push, differ_swap, none_if, some_swap}
 use Rattle.wm_forked.proofs.KeepBorn.{version_numbered}
 use Rattle.wm_forked.proofs.KeptSpaces.{has_versions-kept}
-use Rattle.wm_undone.specs.Restoring.{GoesBack, RestoredTo, restored, restored_to, stays_logged, stays_marked, stays_saved, stays_touched}
+use Rattle.wm_undone.specs.Restoring.{GoesBack, RestoredTo, restored, restored_to, stays_logged, stays_marked, stays_saved, stays_touched, stays_held}
 use Rattle.wm_undone.proofs.RestoringFields.{FieldsStand-restored}
 use Rattle.wm_undone.proofs.RestoringRules.{KeepBack, SpaceBack, base_back, hists_back, locks_back, marks_back, saves_back, touches_back, turns_back, version_back}
 use Rattle.wm_undone.proofs.RestoringStands.{Stands-restored}
@@ -39,6 +39,7 @@ gone_back p c front a back y x = record p {
   savepoints = filter (stays_saved x) p.savepoints;
   touches = filter (stays_touched x.space x.place x.log_length) p.touches;
   marks = filter (stays_marked x.space x.place) p.marks;
+  locks = filter (stays_held x.space x.place) p.locks;
   hists = filter (stays_logged x.space x.log_length) p.hists;
 }
 
@@ -239,6 +240,7 @@ module _ (p : Parts) (old new : Counters) (front : List Space) (a : Space) (back
     savepoints = refl;
     touches = refl;
     marks = refl;
+    locks = refl;
     hists = refl;
     rest = refl;
   }
@@ -266,8 +268,8 @@ FieldsStand-back p old new front a back making y x w k s t rules st may g spaces
     FieldsStand-restored p (gone_back p new front a back y x) s t x.space y.number making a w k x (restored_of p old new front a back making y x may rules) g rules st spaces tables counters
 
 pub Stands-back : (p : Parts) (old new : Counters) (front : List Space) (a : Space) (back : List Space) (making : ℕ) (y : Version) (x : Record) (w : Workspace) (k : Savepoint) (s t : Durable) → Stands p s
-    → MayGoBack p old new front a back making y x → GoesBack p s x.space making w k x → t.spaces ≡ with_space x.space (restored k) s.spaces → t.tables ≡ s.tables → CountersStand (gone_back p new front a back y x) t
+    → MayGoBack p old new front a back making y x → GoesBack p s x.space making w k x → t.spaces ≡ with_space x.space (restored k) s.spaces → t.tables ≡ s.tables → t.locks ≡ filter (stays_held x.space k.place) s.locks → CountersStand (gone_back p new front a back y x) t
     → Stands (gone_back p new front a back y x) t
-Stands-back p old new front a back making y x w k s t st may g spaces tables counters =
-    Stands-restored p (gone_back p new front a back y x) s t x.space y.number making a w k x (restored_of p old new front a back making y x may st.rules) st g spaces tables counters
+Stands-back p old new front a back making y x w k s t st may g spaces tables locks counters =
+    Stands-restored p (gone_back p new front a back y x) s t x.space y.number making a w k x (restored_of p old new front a back making y x may st.rules) st g spaces tables locks counters
     (keep-restored p old new front a back making y x may st.rules)

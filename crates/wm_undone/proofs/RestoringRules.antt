@@ -20,7 +20,7 @@ use Rattle.wm_state.proofs.Making.{same_making}
 use Rattle.wm_state.proofs.Named.{ruled_savepoints}
 use Rattle.wm_state.proofs.Tests.{all_if, differ_filter}
 use Rattle.wm_undone.proofs.RestoringLists.{all_left, fewer}
-use Rattle.wm_undone.specs.Restoring.{stays_logged, stays_marked, stays_saved, stays_touched}
+use Rattle.wm_undone.specs.Restoring.{stays_held, stays_logged, stays_marked, stays_saved, stays_touched}
 
 -- ---- what is there still
 
@@ -57,12 +57,13 @@ module _ (p q : Parts) (x : Record) (back : KeepBack p q x) where
       and_from (is_short z.user && nat_le z.making (more + 2)) _ (and_from (is_short z.user) _ g.0 (le_more z.making work more le g.1))
       (and_from (are_cells (table_of q.tables) z.cells) (is_given (space_of q.spaces) z.space z.place) (are_cells-kept p q tables z.cells k.0) (given_back z.space z.place k.1))
 
-  pub locks_back : (work more : ℕ) → nat_le work more ≡ true → KeepTables p q → q.locks ≡ p.locks → are_locks p work ≡ true → are_locks q more ≡ true
+  pub locks_back : (work more : ℕ) → nat_le work more ≡ true → KeepTables p q → q.locks ≡ filter (stays_held x.space x.place) p.locks → are_locks p work ≡ true → are_locks q more ≡ true
   locks_back work more le tables locks e =
       let h = and_parts (differ (λ (y z : Lock). y.making == z.making) p.locks) (list_all (is_lock (table_of p.tables) (space_of p.spaces) work) p.locks) e in
       rw locks
-      (and_from (differ (λ (y z : Lock). y.making == z.making) p.locks) (list_all (is_lock (table_of q.tables) (space_of q.spaces) more) p.locks) h.0
-      (all_if (is_lock (table_of p.tables) (space_of p.spaces) work) (is_lock (table_of q.tables) (space_of q.spaces) more) (lock_back work more le tables) p.locks h.1))
+      (and_from (differ (λ (y z : Lock). y.making == z.making) (filter (stays_held x.space x.place) p.locks)) (list_all (is_lock (table_of q.tables) (space_of q.spaces) more) (filter (stays_held x.space x.place) p.locks))
+      (differ_filter (λ (y z : Lock). y.making == z.making) (stays_held x.space x.place) p.locks h.0)
+      (all_left (stays_held x.space x.place) (is_lock (table_of p.tables) (space_of p.spaces) work) (is_lock (table_of q.tables) (space_of q.spaces) more) (λ z stays. lock_back work more le tables z) p.locks h.1))
 
   -- ---- turns
 

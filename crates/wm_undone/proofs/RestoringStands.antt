@@ -14,15 +14,16 @@ use Rattle.wm_spec.specs.declared.record.savepoint.Savepoint.{Savepoint as Recor
 use Rattle.wm_spec.specs.declared.record.space.Space.{Space}
 use Rattle.wm_spec.specs.declared.record.table.Table.{Table}
 use Rattle.wm_state.specs.State.{Durable, Workspace, Savepoint, workspace_of, with_space, savepoint_made, log_of}
-use Rattle.wm_state.specs.Standing.{SavepointFields, CountersStand, SpacesStand, SavepointsStand, FieldsStand, Stands, TouchesTell, TouchesStand, HasRow, HistsStand, IsReal, EntriesStand, Logged, MarksStand, RowsStand, has_history, hist_at, logged, logged_as, marked_at}
+use Rattle.wm_state.specs.Standing.{SavepointFields, CountersStand, SpacesStand, SavepointsStand, FieldsStand, Stands, TouchesTell, TouchesStand, HasRow, HistsStand, IsReal, EntriesStand, LocksStand, Logged, MarksStand, RowsStand, locks_by_making, has_history, hist_at, logged, logged_as, marked_at}
 use Rattle.wm_state.proofs.Frames.{KeepRows, fields_stand}
 use Rattle.wm_state.proofs.Keeping.{KeepRows-same}
 use Rattle.wm_state.proofs.Logging.{HaveRows, log_of-found, log_of-same, rows-kept}
 use Rattle.wm_state.proofs.Ready.{KeepReady, KeepReady-same, all_real-kept}
-use Rattle.wm_state.proofs.Staying.{AreReal, EntriesStand-kept, LaterStand-same, SameTurns, TurnsStand-alike, entries_real, part-changed, turn_rows-kept, turns_in, WasTold}
+use Rattle.wm_state.proofs.Staying.{AreReal, EntriesStand-kept, SameTurns, TurnsStand-alike, entries_real, part-changed, turn_rows-kept, turns_in, WasTold}
+use Rattle.wm_state.proofs.Locking.{locks-filter}
 use Rattle.wm_state.proofs.Marking.{AreMarked, MarksStand-kept, SayMarked, marks_in}
 use Rattle.wm_forked.proofs.Placed.{Tell-as}
-use Rattle.wm_undone.specs.Restoring.{GoesBack, RestoredTo, restored, stays_logged, stays_marked, stays_touched}
+use Rattle.wm_undone.specs.Restoring.{GoesBack, RestoredTo, restored, stays_held, stays_logged, stays_marked, stays_touched}
 use Rattle.wm_undone.proofs.Marked.{marked_back, marked_beside}
 use Rattle.wm_undone.proofs.RestoringFields.{FieldsStand-restored, WasMade, WasRestored, before, found_away, found_here, its_fields, its_log, made_before, old_here, place_within}
 use Rattle.wm_undone.proofs.RestoringLists.{find-gone, find-left, slice_get-take, take-take}
@@ -121,6 +122,17 @@ module _ (p q : Parts) (s t : Durable) (n number making : ℕ) (a : Space) (w : 
           by_how (inl h) = inr (rw (marks_are, h.0, h.1, it m y.old y.is h.0) (marked_back n k w p s g.found marks))
           by_how (inr h) = inl (record { old = y.old; is = y.is; same = ap marks_in h.1 }, λ place c. ap (λ xs. marked_at xs m place c) marks_are ∙ marked_beside n k.place m p.marks h.0 place c)
 
+  -- ---- locks
+
+  pub LocksStand-restored : t.locks ≡ filter (stays_held n k.place) s.locks → LocksStand p s → LocksStand q t
+  LocksStand-restored locks stand = record {
+    same =
+        ap locks_by_making (v.locks ∙ ap (λ (f : SavepointFields). filter (stays_held n f.place) p.locks) (its_fields p q s t n number making a w k x v g rules there saves spaces))
+        ∙ locks-filter (stays_held n k.place) p.locks
+        ∙ ap (filter (stays_held n k.place)) stand.same
+        ∙ sym locks;
+  }
+
   -- ---- records of entries
 
   hists_are : q.hists ≡ filter (stays_logged n k.log_length) p.hists
@@ -216,8 +228,8 @@ module _ (p q : Parts) (s t : Durable) (n number making : ℕ) (a : Space) (w : 
 -- ---- the records stand for the state that was gone back to
 
 pub Stands-restored : (p q : Parts) (s t : Durable) (n number making : ℕ) (a : Space) (w : Workspace) (k : Savepoint) (x : Record) → RestoredTo p q n number a x → Stands p s → GoesBack p s n making w k x
-    → t.spaces ≡ with_space n (restored k) s.spaces → t.tables ≡ s.tables → CountersStand q t → keep_rules q ≡ true → Stands q t
-Stands-restored p q s t n number making a w k x v st g spaces tables counters rules = record {
+    → t.spaces ≡ with_space n (restored k) s.spaces → t.tables ≡ s.tables → t.locks ≡ filter (stays_held n k.place) s.locks → CountersStand q t → keep_rules q ≡ true → Stands q t
+Stands-restored p q s t n number making a w k x v st g spaces tables locks counters rules = record {
   rules = rules;
   counters = counters;
   tables = fields.tables;
@@ -229,7 +241,7 @@ Stands-restored p q s t n number making a w k x v st g spaces tables counters ru
   turns = TurnsStand-alike p q s t (ap (λ (z : Parts). z.turns) v.rest) (alike p q s t n number making a w k x v g st.rules st.spaces st.savepoints spaces) st.turns;
   touches = TouchesStand-restored p q s t n number making a w k x v g st.rules st.spaces st.savepoints spaces st.touches;
   marks = MarksStand-restored p q s t n number making a w k x v g st.rules st.spaces st.savepoints spaces st.marks;
-  later = LaterStand-same p q (ap (λ (z : Parts). z.locks) v.rest) st.later;
+  locks = LocksStand-restored p q s t n number making a w k x v g st.rules st.spaces st.savepoints spaces locks st.locks;
   hists = HistsStand-restored p q s t n number making a w k x v g st.rules st.spaces st.savepoints spaces tables st.hists;
   entries = EntriesStand-restored p q s t n number making a w k x v g st.rules st.spaces st.savepoints spaces ready st.entries;
   rows = RowsStand-restored p q s t n number making a w k x v g st.rules st.spaces st.savepoints spaces ready st.entries st.rows;

@@ -16,7 +16,7 @@ use Rattle.wm_tree.specs.Versions.{AllBelow}
 use Rattle.wm_state.specs.Batches.{drop_one, put}
 use Rattle.wm_state.specs.Standing.{newest_first, saved_as, stored_at}
 use Rattle.wm_state.specs.State.{Durable, Savepoint, Workspace, savepoint_made, workspace_of}
-pub use Rattle.wm_state.specs.Editing.{restored, stays_at}
+pub use Rattle.wm_state.specs.Editing.{restored, stays_at, stays_held}
 
 -- ---- the state
 
@@ -63,8 +63,9 @@ pub record RestoredTo (p q : Parts) (n number : ℕ) (a : Space) (x : Record) : 
   pub savepoints : q.savepoints ≡ filter (stays_saved x) p.savepoints
   pub touches : q.touches ≡ filter (stays_touched n x.place x.log_length) p.touches
   pub marks : q.marks ≡ filter (stays_marked n x.place) p.marks
+  pub locks : q.locks ≡ filter (stays_held n x.place) p.locks
   pub hists : q.hists ≡ filter (stays_logged n x.log_length) p.hists
-  pub rest : record q { counters = p.counters; spaces = p.spaces; versions = p.versions; savepoints = p.savepoints; touches = p.touches; marks = p.marks; hists = p.hists } ≡ p
+  pub rest : record q { counters = p.counters; spaces = p.spaces; versions = p.versions; savepoints = p.savepoints; touches = p.touches; marks = p.marks; locks = p.locks; hists = p.hists } ≡ p
 
 -- ---- the batch
 
@@ -73,6 +74,7 @@ abbrev pub keeps_back : Record → OneRecord → Bool
 keeps_back x (records.Savepoint y) = stays_saved x y
 keeps_back x (records.Touch y) = stays_touched x.space x.place x.log_length y
 keeps_back x (records.Mark y) = stays_marked x.space x.place y
+keeps_back x (records.Lock y) = stays_held x.space x.place y
 keeps_back x (records.Hist y) = stays_logged x.space x.log_length y
 keeps_back x r = true
 

@@ -7,6 +7,7 @@ use Rattle.wm_graph.proofs.Joined.{joined, parts-append}
 use Rattle.wm_spec.specs.declared.record.Record.{Record}
 use Rattle.wm_spec.specs.declared.record.Record.TheVariants as records
 use Rattle.wm_spec.specs.declared.record.hist.Hist.{Hist}
+use Rattle.wm_spec.specs.declared.record.lock.Lock.{Lock}
 use Rattle.wm_spec.specs.declared.record.piece.PieceRecord.{PieceRecord}
 use Rattle.wm_spec.specs.declared.record.row.RowRecord.{RowRecord}
 use Rattle.wm_spec.specs.declared.record.stored.Stored.{Stored}
@@ -103,6 +104,20 @@ parts-marked id marks ss under =
     parts-put id (map records.Mark marks) ss under
     ∙ ap (joined p) (parts-marks marks)
     ∙ rw (append-nil p.counters, append-nil p.tables, append-nil p.spaces, append-nil p.versions, append-nil p.savepoints, append-nil p.rows, append-nil p.pieces, append-nil p.touches, append-nil p.locks, append-nil p.hists, append-nil p.turns)
+    refl
+
+-- so do locks
+parts-locks : (xs : List Lock) → parts_in (map records.Lock xs) ≡ record (parts_in []) { locks = xs }
+parts-locks [] = refl
+parts-locks (x ∷ xs) = ap (λ (p : Parts). record p { locks = x ∷ p.locks }) (parts-locks xs)
+
+pub parts-locked : (id : ℕ) (locks : List Lock) (ss : List Stored) → AllUnder id ss → parts_of (applied (put_all id (map records.Lock locks)) ss) ≡ record (parts_of ss) { locks = (parts_of ss).locks ++ locks }
+unfolding joined
+parts-locked id locks ss under =
+    let p : Parts = parts_of ss in
+    parts-put id (map records.Lock locks) ss under
+    ∙ ap (joined p) (parts-locks locks)
+    ∙ rw (append-nil p.counters, append-nil p.tables, append-nil p.spaces, append-nil p.versions, append-nil p.savepoints, append-nil p.rows, append-nil p.pieces, append-nil p.touches, append-nil p.marks, append-nil p.hists, append-nil p.turns)
     refl
 
 -- ---- what tests keep

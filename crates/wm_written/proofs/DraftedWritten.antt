@@ -177,7 +177,7 @@ drafts_written rs m work table entries a c counters_id space_id id ids drawn tra
   keeps = keeps;
   once = once;
   stands = λ s st.
-      plan_written rs counters_id space_id id c d a table es ids drawn traced writing s (drafted_by work m (edits.Append a.number entries ∷ []) s) st refl refl
+      plan_written rs counters_id space_id id c d a table es ids drawn traced writing s (drafted_by work m (edits.Append a.number entries ∷ []) s) st refl refl refl
       (counts_on s m work a.number c d entries (counts_as (parts_of rs) s c st v.one) refl refl refl refl);
   fields = λ s st.
       agree_written rs counters_id space_id id c d a table es ids drawn traced writing s (drafted_by work m (edits.Append a.number entries ∷ []) s) rules st refl refl

@@ -75,7 +75,7 @@ drafts_written_new rs m work table entries a c counters_id space_id id ids drawn
   keeps = keeps;
   once = once;
   stands = λ s st.
-      plan_written_new rs counters_id space_id id c (versioned c m work) d a w table es ids drawn traced rules at may r s (drafted_by work m (edits.Append a.number entries ∷ []) s) st refl refl
+      plan_written_new rs counters_id space_id id c (versioned c m work) d a w table es ids drawn traced rules at may r s (drafted_by work m (edits.Append a.number entries ∷ []) s) st refl refl refl
       (counts_on s m work a.number c d entries (counts_as (parts_of rs) s c st v.one) refl refl refl refl);
   fields = λ s st.
       agree_written_new rs counters_id space_id id c (versioned c m work) d a w table es ids drawn traced rules at may r s (drafted_by work m (edits.Append a.number entries ∷ []) s) st refl refl

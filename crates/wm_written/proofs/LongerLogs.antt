@@ -25,7 +25,7 @@ use Rattle.wm_state.proofs.Marking.{MarksStand-alike, marks_in}
 use Rattle.wm_state.proofs.Named.{saved_there}
 use Rattle.wm_state.proofs.Ready.{KeepReady, KeepReady-same, KeepReady-stands, all_real-kept, tables_found}
 use Rattle.wm_state.proofs.SavedAs.{made_none, made_some}
-use Rattle.wm_state.proofs.Staying.{AreReal, AreReal-same, AreTold, EntriesStand-kept, LaterStand-same, TouchesStand-kept, TurnsStand-alike, WasTouched, entries_real, part-changed, turn_rows-kept, turns_in}
+use Rattle.wm_state.proofs.Staying.{AreReal, AreReal-same, AreTold, EntriesStand-kept, LocksStand-same, TouchesStand-kept, TurnsStand-alike, WasTouched, entries_real, part-changed, turn_rows-kept, turns_in}
 use Rattle.wm_written.proofs.Logged.{hists_kept-alike, logged-away, logged-here, logged_in}
 use Rattle.wm_written.proofs.Longer.{FieldsStand-longer, IsLonger, after, before, grown}
 use Rattle.wm_written.proofs.TouchesKept.{tells_kept, tells_more, tells_other}
@@ -201,8 +201,8 @@ module _ (p q : Parts) (s t : Durable) (n : ℕ) (es : List Entry) (own : List E
   -- ---- the records
 
   -- they stand for the state, where what they name and what is own does
-  pub Stands-longer : ((fs : List Entry) → All (IsReal t.tables) fs → All (IsReal t.tables) es → All (IsReal t.tables) (own fs)) → CountersStand q t → keep_rules q ≡ true → NamedStand q t → OwnsStand q t → Stands q t
-  Stands-longer own_real counters rules named owns = record {
+  pub Stands-longer : ((fs : List Entry) → All (IsReal t.tables) fs → All (IsReal t.tables) es → All (IsReal t.tables) (own fs)) → t.locks ≡ s.locks → CountersStand q t → keep_rules q ≡ true → NamedStand q t → OwnsStand q t → Stands q t
+  Stands-longer own_real locks counters rules named owns = record {
     rules = rules;
     counters = counters;
     tables = fields.tables;
@@ -214,7 +214,7 @@ module _ (p q : Parts) (s t : Durable) (n : ℕ) (es : List Entry) (own : List E
     turns = TurnsStand-alike p q s t (ap (λ (z : Parts). z.turns) l.rest) (part-changed turns_in n (grown es own) (λ w. refl) (λ w. refl) s.spaces t.spaces spaces) st.turns;
     touches = TouchesStand-longer;
     marks = MarksStand-alike p q s t (ap (λ (z : Parts). z.marks) l.rest) (part-changed marks_in n (grown es own) (λ w. refl) (λ w. refl) s.spaces t.spaces spaces) st.marks;
-    later = LaterStand-same p q (ap (λ (z : Parts). z.locks) l.rest) st.later;
+    locks = LocksStand-same p q s t (ap (λ (z : Parts). z.locks) l.rest) locks st.locks;
     hists = HistsStand-longer;
     entries = EntriesStand-longer own_real;
     rows = RowsStand-longer;

@@ -211,12 +211,12 @@ module _ (ss : List Stored) (counters_id space_id id : ℕ) (old mid new : Count
       spaces tables counted_so)
 
   -- and stand for it
-  pub plan_written_new : (s u : Durable) → Stands (parts_of ss) s → u.spaces ≡ with_space a.number (with_entries es) s.spaces → u.tables ≡ s.tables → ((q : Parts) → q.counters ≡ new ∷ [] → CountersStand q u)
+  pub plan_written_new : (s u : Durable) → Stands (parts_of ss) s → u.spaces ≡ with_space a.number (with_entries es) s.spaces → u.tables ≡ s.tables → u.locks ≡ s.locks → ((q : Parts) → q.counters ≡ new ∷ [] → CountersStand q u)
       → Stands (parts_of (applied batch ss)) u
-  plan_written_new s u st spaces tables counted_so =
+  plan_written_new s u st spaces tables locks counted_so =
       subst (λ rs. Stands (parts_of rs) u) in_newest
       (plan_written after counters_id space_id (id + 1) mid new a table es ids drawn traced between (halfway s) u
       (subst (λ p. Stands p (halfway s)) (sym parts)
-      (Stands-forked (parts_of ss) (forked (parts_of ss) mid v) s (halfway s) a.number v.number (forked_of (parts_of ss) old mid a a.number v may.fork rules) st refl refl
+      (Stands-forked (parts_of ss) (forked (parts_of ss) mid v) s (halfway s) a.number v.number (forked_of (parts_of ss) old mid a a.number v may.fork rules) st refl refl refl
       (record { counters = mid; one = refl; next_stamp = refl; last_moment = refl; limit = refl; work = refl }) (keep-forked (parts_of ss) old mid a a.number v may.fork rules)))
-      spaces tables counted_so)
+      spaces tables locks counted_so)

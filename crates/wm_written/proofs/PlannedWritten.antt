@@ -342,13 +342,13 @@ module _ (ss : List Stored) (counters_id space_id id : ℕ) (old new : Counters)
       (FieldsStand-wrote_all (parts_of ss) q s u a.number es (wrote-all (parts_of ss) old new a table w.place es drawn traced i.front i.back rules w.may w.are i.old) st spaces tables (counted_so q refl))
 
   -- and stand for it
-  pub plan_written : (s u : Durable) → Stands (parts_of ss) s → u.spaces ≡ with_space a.number (with_entries es) s.spaces → u.tables ≡ s.tables
+  pub plan_written : (s u : Durable) → Stands (parts_of ss) s → u.spaces ≡ with_space a.number (with_entries es) s.spaces → u.tables ≡ s.tables → u.locks ≡ s.locks
       → ((q : Parts) → q.counters ≡ new ∷ [] → CountersStand q u) → Stands (parts_of (applied batch ss)) u
-  plan_written s u st spaces tables counted_so =
+  plan_written s u st spaces tables locks counted_so =
       let i = parts-entries in
       let q = all_written (parts_of ss) new i.front a i.back (length es) comes in
       subst (λ p. Stands p u) (sym i.is)
-      (Stands-wrote_all (parts_of ss) q s u a.number es (wrote-all (parts_of ss) old new a table w.place es drawn traced i.front i.back st.rules w.may w.are i.old) st spaces tables (counted_so q refl)
+      (Stands-wrote_all (parts_of ss) q s u a.number es (wrote-all (parts_of ss) old new a table w.place es drawn traced i.front i.back st.rules w.may w.are i.old) st spaces tables locks (counted_so q refl)
       (keep-written (parts_of ss) old new i.front a i.back (length es) comes
       (may_put (parts_of ss) old new a table w.place es drawn traced i.front i.back st.rules w.may w.are i.old) st.rules))
 

@@ -17,7 +17,7 @@ pub FieldsStand-wrote_all : (p q : Parts) (s t : Durable) (n : ℕ) (es : List E
 FieldsStand-wrote_all p q s t n es w st spaces tables counters = FieldsStand-longer p q s t n es (λ own. own ++ es) (longer_wrote p q n es w) spaces st tables counters
 
 -- entries were written: the workspace has them, and the counters are set
-pub Stands-wrote_all : (p q : Parts) (s t : Durable) (n : ℕ) (es : List Entry) → WroteAll p q n es → Stands p s → t.spaces ≡ appended_all n es s.spaces → t.tables ≡ s.tables → CountersStand q t → keep_rules q ≡ true → Stands q t
-Stands-wrote_all p q s t n es w st spaces tables counters rules =
-    Stands-longer p q s t n es (λ own. own ++ es) (longer_wrote p q n es w) spaces st tables (λ fs own news. All-append (IsReal t.tables) fs es own news) counters rules
+pub Stands-wrote_all : (p q : Parts) (s t : Durable) (n : ℕ) (es : List Entry) → WroteAll p q n es → Stands p s → t.spaces ≡ appended_all n es s.spaces → t.tables ≡ s.tables → t.locks ≡ s.locks → CountersStand q t → keep_rules q ≡ true → Stands q t
+Stands-wrote_all p q s t n es w st spaces tables locks counters rules =
+    Stands-longer p q s t n es (λ own. own ++ es) (longer_wrote p q n es w) spaces st tables (λ fs own news. All-append (IsReal t.tables) fs es own news) locks counters rules
     (NamedStand-wrote p q s t n es w spaces st.rules st.spaces st.named) (OwnsStand-wrote p q s t n es w spaces st.spaces st.owns)
