@@ -1,11 +1,12 @@
 //! What becomes of the records where a line makes its edits.
-ghost use Rattle.std.specs.Prelude.{◌≡◌, ◌≤◌, ◌∷◌, [], length, true, IfOk, IfErr, OnOk};
+ghost use Rattle.std.specs.Prelude.{◌≡◌, ◌≤◌, ◌+◌, ◌∷◌, [], length, true, IfOk, IfErr, OnOk};
 ghost use Rattle.wm_changes.specs.Ids.{HasGreatId};
 ghost use Rattle.wm_graph.specs.Parts.{parts_of};
 ghost use Rattle.wm_graph.specs.Rules.{keep_rules};
 ghost use Rattle.wm_prices.specs.Prices.{Costs, Spends};
 ghost use Rattle.wm_state.specs.ById.{Ascend, applied};
 ghost use Rattle.wm_state.specs.Drafts.{CanDraft, CanEdit, CanWork, Drafts, DraftsBy, followed_by};
+ghost use Rattle.wm_state.specs.Editing.{locks_by};
 
 use crate::followed::followed_by;
 use std::alloc::Global;
@@ -16,6 +17,8 @@ use wm_changes::DraftFault;
 use wm_changes::copies::change_copies;
 use wm_image::Image;
 use wm_lifecycle::births::bear;
+use wm_lifecycle::freezes::freeze;
+use wm_lifecycle::locks::{NewLocks, lock, unlock};
 use wm_lifecycle::removals::remove;
 use wm_lifecycle::restores::restore;
 use wm_lifecycle::saves::{keep, save};
@@ -27,7 +30,17 @@ use wm_settle::settles::settle;
 use wm_spec::record::{Batch, Changes};
 use wm_state::edit::{Edit, LINE_WORK};
 
-/// What an edit at a moment makes of the records, with so much work.
+/// How many locks an edit makes.
+fn locks_by(edit: &Edit) -> u64
+    ensures { result ≡ locks_by edit.now }
+{
+    match edit {
+        Edit::Lock { cells, .. } => cells.len() as u64,
+        _ => 0,
+    }
+}
+
+/// What an edit at a moment makes of the records, with so much work, which is no less than the locks that it makes.
 fn draft_one(
     alloc: Global,
     image: &Image,
@@ -38,6 +51,7 @@ fn draft_one(
     requires rules { keep_rules (parts_of image.now) ≡ true }
     requires work { CanWork (parts_of image.now) moment work }
     requires can { CanEdit (parts_of image.now) moment edit }
+    requires locks { locks_by edit ≤ work }
     ensures drafts { IfOk result (DraftsBy work image.now moment (edit ∷ [])) }
     ensures costs { IfOk result (λ changes. Costs image.now edit (applied changes image.now)) }
     ensures full { IfErr result (λ fault. fault ≡ DraftFault.Ids → HasGreatId image.now) }
@@ -63,6 +77,26 @@ fn draft_one(
         Edit::Gain { space, entries } => gain(alloc, image, moment, work, space, entries),
         Edit::Rebase { space, emptied } => rebase(alloc, image, moment, work, space, emptied),
         Edit::Settle { space, marks } => settle(alloc, image, moment, work, space, marks),
+        Edit::Lock {
+            space,
+            mode,
+            user,
+            cells,
+        } => {
+            let locks = NewLocks {
+                space,
+                mode,
+                user,
+                cells,
+            };
+            lock(alloc, image, moment, work, locks)
+        }
+        Edit::Unlock { makings } => Ok(unlock(alloc, image, moment, work, makings)?),
+        Edit::Freeze {
+            space,
+            mode,
+            writer,
+        } => Ok(freeze(alloc, image, moment, work, space, mode, writer)?),
     }
 }
 
@@ -76,7 +110,7 @@ fn go_on(alloc: Global, image: &mut Image, changes: &Changes) -> Result<(), Memo
 }
 
 /// Drafts one edit more: the image goes on to what the changes of the last edit make of it, they come behind those in
-/// front, and the edit is the last. It adds work of 1.
+/// front, and the edit is the last. It adds work of 1, and of 1 for each lock that it makes.
 fn draft_next(
     alloc: Global,
     image: &mut Image,
@@ -86,11 +120,11 @@ fn draft_next(
     edit: Edit,
 ) -> Result<(), DraftFault>
     requires rules { keep_rules (parts_of (applied last.old image.old)) ≡ true }
-    requires work { CanWork (parts_of (applied last.old image.old)) moment 1 }
+    requires work { CanWork (parts_of (applied last.old image.old)) moment (1 + locks_by edit) }
     requires can { CanEdit (parts_of (applied last.old image.old)) moment edit }
     ensures image { OnOk result (image.new ≡ applied last.old image.old) }
     ensures front { OnOk result (front.new ≡ followed_by front.old last.old) }
-    ensures drafts { OnOk result (DraftsBy 1 image.new moment (edit ∷ []) last.new) }
+    ensures drafts { OnOk result (DraftsBy (1 + locks_by edit) image.new moment (edit ∷ []) last.new) }
     ensures costs { OnOk result (Costs image.new edit (applied last.new image.new)) }
     ensures full { IfErr result (λ fault. fault ≡ DraftFault.Ids → HasGreatId image.new) }
 {
@@ -98,7 +132,8 @@ fn draft_next(
         drop(edit);
         return Err(fault.into());
     }
-    let newest = draft_one(alloc, image, moment, 1, edit)?;
+    let work = 1 + locks_by(&edit);
+    let newest = draft_one(alloc, image, moment, work, edit)?;
     let later = replace(last, newest);
     let earlier = replace(front, Changes::new(alloc));
     let both = followed_by(alloc, earlier, later)?;
@@ -108,8 +143,8 @@ fn draft_next(
 
 /// What the edits of a line at a moment make of the records: the changes of the last edit, and in front of them those
 /// of all others. These are applied to the image, so that each edit is drafted of what the ones before it left. Each
-/// adds work, since the numbers of versions and the makings of savepoints are held to it: the first the line's work less
-/// 1 for each other one, each other one 1.
+/// adds work, since the numbers of versions and the makings of savepoints and of locks are held to it: each but the first
+/// 1, and 1 for each lock that it makes, and the first the rest of the line's work.
 fn draft_each(
     alloc: Global,
     image: &mut Image,
@@ -133,7 +168,8 @@ fn draft_each(
     let Some(first) = edits.next() else {
         return Ok(());
     };
-    let work = LINE_WORK - edits.len() as u64;
+    let locks = locks_by(&first);
+    let work = LINE_WORK - edits.len() as u64 + locks;
     let drafted = draft_one(alloc, image, moment, work, first)?;
     *last = drafted;
     for edit in edits {

@@ -11,3 +11,4 @@ pub mod Spaced
 pub mod Coming
 pub mod Least
 pub mod Turned
+pub mod Locked

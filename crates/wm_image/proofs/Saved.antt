@@ -189,7 +189,7 @@ made_most spaces versions work k (y ∷ ys) each some = by_making (y.making == k
         ap (λ m. nat_le m (work + 2)) (sym (eqb-true y.making k same)) ∙ (and_parts (is_short y.name) (nat_le y.making (work + 2)) one.0).1
     by_making false same h rest = rest h
 
-few_worked : (c : Counters) → are_counters c ≡ true → nat_le c.work (2 ^ 62) ≡ true
+pub few_worked : (c : Counters) → are_counters c ≡ true → nat_le c.work (2 ^ 62) ≡ true
 few_worked c e = fifth (nat_le 1 c.limit && nat_le c.limit 1048576) (nat_le 1 c.next_stamp && nat_le c.next_stamp (c.limit + 1)) (nat_lt c.last_moment END) (nat_le c.work (2 ^ 62)) (nat_le c.next_version (c.work + 2)) e
   where
     fifth : (a b d f g : Bool) → ((a && b) && (d && (f && g))) ≡ true → f ≡ true

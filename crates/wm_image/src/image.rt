@@ -59,7 +59,7 @@ use wm_spec::record::{
 #[derive(Drop)]
 pub struct Image {
     kept: Kept,
-    index: Index,
+    pub(crate) index: Index,
     hops: Hops,
     catalog: Catalog,
 }

@@ -5,6 +5,7 @@ pub mod children;
 pub mod image;
 mod indexing;
 pub mod load;
+mod locks;
 pub mod shown;
 
 pub use image::Image;

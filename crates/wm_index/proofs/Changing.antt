@@ -9,10 +9,11 @@ use Rattle.wm_ids.proofs.Pairs.{changed_number, changed_pair}
 use Rattle.wm_ids.specs.Ids.{Keyed, ids_among, ids_at_position, ids_in, pair_order, piece_ids}
 use Rattle.wm_ids.specs.Versioned.{Versions, ids_under, versions_on}
 use Rattle.wm_index.specs.Indexed.{ids_at}
-use Rattle.wm_index.specs.Sought.{Sought, OwnedBy, TouchAt, TouchesAt, TurnAt, HistsOn, is_sought, PieceAt, PiecesIn}
+use Rattle.wm_index.specs.Sought.{Sought, OwnedBy, TouchAt, TouchesAt, TurnAt, HistsOn, LocksOn, LocksOf, LockAt, is_sought, PieceAt, PiecesIn}
 use Rattle.wm_index.specs.declared.index.Index.{Index}
 use Rattle.wm_spec.specs.declared.record.Record.TheVariants as records
 use Rattle.wm_spec.specs.declared.record.hist.Hist.{Hist}
+use Rattle.wm_spec.specs.declared.record.lock.Lock.{Lock}
 use Rattle.wm_spec.specs.declared.record.piece.PieceRecord.{PieceRecord}
 use Rattle.wm_spec.specs.declared.record.trace.Trace.{Trace}
 use Rattle.wm_spec.specs.declared.record.turn.Turn.{Turn}
@@ -54,3 +55,16 @@ pub piece_changed : (change : List ℕ → List ℕ) (old : Index) (owned : BTre
 piece_changed change old owned pieces r by_version by_key (PieceAt table key version) = by_key table key version
 piece_changed change old owned pieces r by_version by_key (PiecesIn version) = by_version version ∙ changed_number change (ids_among nat_cmp old.pieces_in.entries) r.version version
 piece_changed change old owned pieces r by_version by_key _ = refl
+
+-- the ids under the keys of a lock are changed
+pub lock_changed : (change : List ℕ → List ℕ) (old : Index) (owned held : BTreeMap ℕ (BTreeSet ℕ)) (makings : BTreeMap ℕ (List ℕ)) (locks : BTreeMap ℕ Keyed) (r : Lock)
+    → ((q : ℕ) → ids_among nat_cmp owned.entries q ≡ cond (is_eq (nat_cmp r.space q)) (change (ids_among nat_cmp old.owned.entries r.space)) (ids_among nat_cmp old.owned.entries q))
+    → ((q : ℕ) → ids_among nat_cmp held.entries q ≡ cond (is_eq (nat_cmp r.space q)) (change (ids_among nat_cmp old.locks_of.entries r.space)) (ids_among nat_cmp old.locks_of.entries q))
+    → ((q : ℕ) → ids_in nat_cmp makings.entries q ≡ cond (is_eq (nat_cmp r.making q)) (change (ids_in nat_cmp old.lock_makings.entries r.making)) (ids_in nat_cmp old.lock_makings.entries q))
+    → ((t : ℕ) (k : List Value) → piece_ids locks.entries t k ≡ cond ((r.cells.table == t) && is_eq (key_order r.cells.key k)) (change (piece_ids old.locks.entries t k)) (piece_ids old.locks.entries t k))
+    → (q : Sought) → ids_at (record old { owned = owned; locks = locks; locks_of = held; lock_makings = makings }) q ≡ cond (is_sought q (records.Lock r)) (change (ids_at old q)) (ids_at old q)
+lock_changed change old owned held makings locks r by_space by_holder by_making by_key (OwnedBy space) = by_space space ∙ changed_number change (ids_among nat_cmp old.owned.entries) r.space space
+lock_changed change old owned held makings locks r by_space by_holder by_making by_key (LocksOf space) = by_holder space ∙ changed_number change (ids_among nat_cmp old.locks_of.entries) r.space space
+lock_changed change old owned held makings locks r by_space by_holder by_making by_key (LockAt making) = by_making making ∙ changed_number change (ids_in nat_cmp old.lock_makings.entries) r.making making
+lock_changed change old owned held makings locks r by_space by_holder by_making by_key (LocksOn table key) = by_key table key
+lock_changed change old owned held makings locks r by_space by_holder by_making by_key _ = refl

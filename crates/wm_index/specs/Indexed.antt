@@ -8,7 +8,7 @@ use Rattle.wm_spec.specs.declared.record.stored.Stored.{Stored}
 use Rattle.wm_ids.specs.Ids.{placed, without, ids_among, ids_at_position, ids_in, number_ids, pair_order, piece_ids}
 use Rattle.wm_ids.specs.Rows.{row_ids}
 use Rattle.wm_ids.specs.Versioned.{AllNested, AllSpanned, ids_under, versions_on}
-use Rattle.wm_index.specs.Sought.{Sought, TheCounters, Tables, Spaces, SpaceAt, VersionAt, VersionIn, VersionsUnder, SavepointsOf, SavepointAt, KeptAs, KeptUnder, BornAs, SeenUnder, RowAt, PieceAt, TouchesAt, MarksAt, PiecesIn, OwnedBy, MarksIn, TouchAt, TurnAt, HistsOn, is_sought, ids_with}
+use Rattle.wm_index.specs.Sought.{Sought, TheCounters, Tables, Spaces, SpaceAt, VersionAt, VersionIn, VersionsUnder, SavepointsOf, SavepointAt, KeptAs, KeptUnder, BornAs, SeenUnder, RowAt, PieceAt, TouchesAt, MarksAt, PiecesIn, OwnedBy, MarksIn, TouchAt, TurnAt, HistsOn, LocksOn, LocksOf, LockAt, is_sought, ids_with}
 use Rattle.wm_index.specs.declared.index.Index.{Index}
 
 -- the ids that an index has of what is sought
@@ -36,6 +36,9 @@ ids_at x (MarksIn space) = ids_in nat_cmp x.marks_in.entries space
 ids_at x (TouchAt space position) = ids_at_position x.touched_at.keys (space, position)
 ids_at x (TurnAt space number) = ids_in pair_order x.turns_at.entries (space, number)
 ids_at x (HistsOn space table) = ids_among pair_order x.hists_on.entries (space, table)
+ids_at x (LocksOn table key) = piece_ids x.locks.entries table key
+ids_at x (LocksOf space) = ids_among nat_cmp x.locks_of.entries space
+ids_at x (LockAt making) = ids_in nat_cmp x.lock_makings.entries making
 
 -- the ids of whatever is sought ascend
 abbrev pub IdsAscend : Index → Type 0

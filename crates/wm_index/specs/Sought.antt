@@ -15,7 +15,8 @@ use Rattle.wm_ids.specs.Ids.{placed, without}
 -- that were born from a version, or see it under their own; a row by its stamp; the pieces of a version on a table and
 -- a key; the touches on a table and a key, or the marks; the pieces of a version; whatever is a workspace's own:
 -- itself, its versions, savepoints, touches, locks, entries of its log, marks and turns; its marks alone; the touches
--- of a workspace at a position of its log, its turns of a number, or the entries of its log on a table
+-- of a workspace at a position of its log, its turns of a number, or the entries of its log on a table; the locks on a
+-- table and a key, those of a workspace, or one by its making
 pub data Sought : Type 0 where
   TheCounters : Sought
   Tables : Sought
@@ -40,6 +41,9 @@ pub data Sought : Type 0 where
   TouchAt : ℕ → ℕ → Sought
   TurnAt : ℕ → ℕ → Sought
   HistsOn : ℕ → ℕ → Sought
+  LocksOn : ℕ → List Value → Sought
+  LocksOf : ℕ → Sought
+  LockAt : ℕ → Sought
 
 -- the record is what is sought
 abbrev pub is_sought : Sought → Record → Bool
@@ -73,6 +77,9 @@ is_sought (MarksIn space) (records.Mark r) = r.space == space
 is_sought (TouchAt space position) (records.Touch r) = (r.space == space) && (r.position == position)
 is_sought (TurnAt space number) (records.Turn r) = (r.space == space) && (r.rebase == number)
 is_sought (HistsOn space table) (records.Hist r) = (r.space == space) && (r.cells.table == table)
+is_sought (LocksOn table key) (records.Lock r) = (r.cells.table == table) && is_eq (key_order r.cells.key key)
+is_sought (LocksOf space) (records.Lock r) = r.space == space
+is_sought (LockAt making) (records.Lock r) = r.making == making
 is_sought _ _ = false
 
 -- the record is a piece of a table and a key, of any version

@@ -17,7 +17,7 @@ use wm_ids::keyed::{
 use wm_ids::rows::{RowIds, add_row, drop_row, no_rows};
 use wm_ids::sets::{IdSets, add_among, drop_among};
 use wm_ids::versioned::{PieceIds, add_piece_id, drop_piece_id};
-use wm_spec::record::{Hist, PieceRecord, Record, Savepoint, Space, Trace, Turn, Version};
+use wm_spec::record::{Hist, Lock, PieceRecord, Record, Savepoint, Space, Trace, Turn, Version};
 
 /// Ids in ascending order: of the counters, the tables and the workspaces; of workspaces and versions by number; of
 /// the versions of a workspace, by number, and of those under a version; of the savepoints of a workspace, by making,
@@ -25,7 +25,8 @@ use wm_spec::record::{Hist, PieceRecord, Record, Savepoint, Space, Trace, Turn, 
 /// own; of the workspaces with a parent that were born from a version, or see it under their own; of rows by stamp;
 /// of pieces by table, key and version; of touches and of marks by table and key; of the pieces of a version; of the
 /// records that are a workspace's own, and of its marks alone; of touches by workspace and position, of turns by
-/// workspace and number, and of entries of logs by workspace and table.
+/// workspace and number, and of entries of logs by workspace and table; of locks by table and key, by workspace, and by
+/// making.
 #[derive(Drop)]
 pub struct Index {
     pub counters: Vec<u64>,
@@ -51,6 +52,9 @@ pub struct Index {
     pub touched_at: Positions,
     pub turns_at: Ids<(u32, u32)>,
     pub hists_on: IdSets<(u32, u16)>,
+    pub locks: TableIds,
+    pub locks_of: IdSets<u32>,
+    pub lock_makings: Ids<u64>,
 }
 
 impl Index {
@@ -83,6 +87,9 @@ impl Index {
             touched_at: BTreeSet::new(alloc),
             turns_at: BTreeMap::new(alloc),
             hists_on: BTreeMap::new(alloc),
+            locks: BTreeMap::new(alloc),
+            locks_of: BTreeMap::new(alloc),
+            lock_makings: BTreeMap::new(alloc),
         }
     }
 
@@ -102,7 +109,7 @@ impl Index {
             Record::Row(row) => add_row(alloc, &mut self.rows, row.stamp, id),
             Record::Piece(piece) => self.add_piece(alloc, id, piece),
             Record::Touch(touch) => self.add_touch(alloc, id, touch),
-            Record::Lock(lock) => add_among(alloc, &mut self.owned, lock.get().space, id),
+            Record::Lock(lock) => self.add_lock(alloc, id, lock.get()),
             Record::Hist(hist) => self.add_hist(alloc, id, hist.get()),
             Record::Mark(mark) => self.add_mark(alloc, id, mark),
             Record::Turn(turn) => self.add_turn(alloc, id, turn),
@@ -182,6 +189,19 @@ impl Index {
         add_on(alloc, &mut self.touches, cells.table, &cells.key, id)
     }
 
+    /// Adds the id of a lock.
+    fn add_lock(&mut self, alloc: Global, id: u64, lock: &Lock) -> Result<(), Memory>
+        requires { IdsAscend self.old }
+        ensures ids { OnOk result (Adds self.old self.new id (records.Lock lock.now)) }
+        ensures pieces { OnOk result (self.new.pieces.entries ≡ self.old.pieces.entries) }
+    {
+        add_among(alloc, &mut self.owned, lock.space, id)?;
+        add_among(alloc, &mut self.locks_of, lock.space, id)?;
+        add_to(alloc, &mut self.lock_makings, lock.making, id)?;
+        let cells = &lock.cells;
+        add_on(alloc, &mut self.locks, cells.table, &cells.key, id)
+    }
+
     /// Adds the id of a mark.
     fn add_mark(&mut self, alloc: Global, id: u64, mark: &Trace) -> Result<(), Memory>
         requires { IdsAscend self.old }
@@ -232,7 +252,7 @@ impl Index {
             Record::Row(row) => drop_row(&mut self.rows, row.stamp, id),
             Record::Piece(piece) => self.drop_piece(id, piece),
             Record::Touch(touch) => self.drop_touch(id, touch),
-            Record::Lock(lock) => drop_among(&mut self.owned, &lock.get().space, id),
+            Record::Lock(lock) => self.drop_lock(id, lock.get()),
             Record::Hist(hist) => self.drop_hist(id, hist.get()),
             Record::Mark(mark) => self.drop_mark(id, mark),
             Record::Turn(turn) => self.drop_turn(id, turn),
@@ -304,6 +324,19 @@ impl Index {
         drop_at(&mut self.touched_at, touch.space, touch.position, id);
         let cells = &touch.cells;
         drop_on(&mut self.touches, cells.table, &cells.key, id);
+    }
+
+    /// Drops the id of a lock.
+    fn drop_lock(&mut self, id: u64, lock: &Lock)
+        requires { IdsAscend self.old }
+        ensures ids { Drops self.old self.new id (records.Lock lock.now) }
+        ensures pieces { self.new.pieces.entries ≡ self.old.pieces.entries }
+    {
+        drop_among(&mut self.owned, &lock.space, id);
+        drop_among(&mut self.locks_of, &lock.space, id);
+        drop_from(&mut self.lock_makings, &lock.making, id);
+        let cells = &lock.cells;
+        drop_on(&mut self.locks, cells.table, &cells.key, id);
     }
 
     /// Drops the id of a mark.

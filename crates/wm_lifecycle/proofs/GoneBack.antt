@@ -45,6 +45,11 @@ goes_owned x (records.Mark y) = by_test (y.space == x.space) _
     by_test : (a b : Bool) → not (not a || b) ≡ (a && not (not a || b))
     by_test true b = refl
     by_test false b = refl
+goes_owned x (records.Lock y) = by_test (y.space == x.space) _
+  where
+    by_test : (a b : Bool) → not (not a || b) ≡ (a && not (not a || b))
+    by_test true b = refl
+    by_test false b = refl
 goes_owned x (records.Hist y) = by_test (y.space == x.space) _
   where
     by_test : (a b : Bool) → not (not a || b) ≡ (a && not (not a || b))
@@ -52,7 +57,6 @@ goes_owned x (records.Hist y) = by_test (y.space == x.space) _
     by_test false b = refl
 goes_owned x (records.Space y) = sym (and-false (y.number == x.space))
 goes_owned x (records.Version y) = sym (and-false (y.space == x.space))
-goes_owned x (records.Lock y) = sym (and-false (y.space == x.space))
 goes_owned x (records.Turn y) = sym (and-false (y.space == x.space))
 goes_owned x _ = refl
 

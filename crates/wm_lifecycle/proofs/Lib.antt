@@ -1,6 +1,10 @@
 mod Born
+mod Frozen
 mod GoneBack
 mod GoneLists
 mod GoneVersions
 mod GoneWith
+mod Locking
+mod Unlocked
 mod Priced
+mod PricedUnlock

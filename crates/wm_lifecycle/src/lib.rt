@@ -3,6 +3,8 @@
 
 mod batches;
 pub mod births;
+pub mod freezes;
+pub mod locks;
 mod points;
 pub mod removals;
 pub mod restores;

@@ -25,7 +25,7 @@ use wm_image::Image;
 use wm_spec::record::{Changes, Record, Savepoint, Space, Version};
 
 /// Whether a record goes where its workspace goes back to a savepoint: a later savepoint, a touch that was made from its
-/// place on or by a later entry, a mark that was made from its place on, and a later entry of the log.
+/// place on or by a later entry, a mark or a lock that was made from its place on, and a later entry of the log.
 fn goes_back(savepoint: &Savepoint, found: Option<&Record>) -> bool
     ensures { result ≡ goes_back savepoint.now (option_copied found.entry) }
 {
@@ -41,6 +41,10 @@ fn goes_back(savepoint: &Savepoint, found: Option<&Record>) -> bool
         }
         Some(Record::Mark(mark)) => {
             mark.space == savepoint.space && mark.place >= savepoint.place
+        }
+        Some(Record::Lock(lock)) => {
+            let lock = lock.get();
+            lock.space == savepoint.space && lock.place >= savepoint.place
         }
         Some(Record::Hist(hist)) => {
             let hist = hist.get();

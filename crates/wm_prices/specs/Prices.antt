@@ -41,6 +41,11 @@ is_head n (records.Counters c) = true
 is_head n (records.Space r) = r.number == n
 is_head n r = false
 
+-- the record is that of the counters
+abbrev pub holds_counters : Record → Bool
+holds_counters (records.Counters c) = true
+holds_counters r = false
+
 -- ---- what an edit costs
 
 -- the touches of a workspace at the last place that was given there which share a cell with entries
@@ -65,12 +70,13 @@ KeepsMarks old new = (parts_of new).marks ≡ (parts_of old).marks
 
 -- beside the counters and its workspace an implicit savepoint changes one record; entries that are replayed change four each, a piece, two
 -- touches and an entry of the log, and the version that has them; entries that a log gains three each; a rebase changes a version, a turn,
--- the pieces of that version and the marks of the workspace; nothing is said of other edits
+-- the pieces of that version and the marks of the workspace; locks that go change one for each making; nothing is said of other edits
 abbrev pub Costs : List Stored → Edit → List Stored → Type 0
 Costs old (edits.Keep n) new = ChangesBeside (is_head n) 1 old new × KeepsMarks old new
 Costs old (edits.Replay n entries) new = ChangesBeside (is_head n) (1 + 4 * length entries.items + touch_price (parts_of old) n (map entry_of entries.items)) old new × KeepsMarks old new
 Costs old (edits.Gain n entries) new = ChangesBeside (is_head n) (3 * length entries.items + touch_price (parts_of old) n (map entry_of entries.items)) old new
 Costs old (edits.Rebase n emptied) new = ChangesBeside (is_head n) (2 + length (pieces_at (parts_of new) (latest (parts_of new) n)) + length (marks_at (parts_of old) n)) old new
+Costs old (edits.Unlock makings) new = ChangesBeside holds_counters (length makings.items) old new
 Costs old e new = Unit {0}
 
 -- ---- what edits cost, one after another

@@ -1,4 +1,4 @@
-use Rattle.std.proofs.Common.{◌≡◌, ◌∷◌, [], ◌+◌, ◌-◌, List, refl, sym, ap, ◌∙◌}
+use Rattle.std.proofs.Common.{◌≡◌, ◌∷◌, [], ◌+◌, ◌-◌, List, length, refl, sym, ap, ◌∙◌}
 use Rattle.std.specs.Vec.Iter.{into_iter_items, into_iter_len}
 use Rattle.wm_spec.specs.declared.record.batch.Change.{Change}
 use Rattle.wm_state.specs.ById.{applied}
@@ -24,13 +24,18 @@ returns-in_default-clause-spends c =
 begins : (c : goal.After-into_iter-edit-iterator) → c.args.edits.items ≡ c.in-Some.first ∷ into_iter_items c.into_iter-edit-iterator.result
 begins c = sym c.into_iter-edits.ensures.rest ∙ c.in-Some.ensures.items ∙ ap (λ it. c.in-Some.first ∷ into_iter_items it) (sym c.into_iter-edit-iterator.ensures.into_iter_gives)
 
+-- as many others are left as are told
+others : (c : goal.After-into_iter-edit-iterator) → into_iter_len c.into_iter-edit-iterator.result ≡ length (into_iter_items c.into_iter-edit-iterator.result)
+others c =
+    many_left (into_iter_len c.into_iter-edit-iterator.result) (into_iter_len c.into_iter-edits.result) c.args.edits c.in-Some.first (into_iter_items c.into_iter-edit-iterator.result) (begins c)
+    (ap (λ it. into_iter_len it + 1) c.into_iter-edit-iterator.ensures.into_iter_gives ∙ c.in-Some.ensures.len) c.into_iter-edits.ensures.len
+
 pub loop-edit-init : goal.loop-edit-init
 loop-edit-init c =
-    goes_first c.args.image.now c.args.moment (4096 - c.len.result) (into_iter_len c.into_iter-edit-iterator.result) c.args.edits.items (into_iter_items c.into_iter-edit-iterator.result) c.in-Some.first c.args.front.now c.in_ok-drafted.drafted
-    c.requires.can (begins c)
-    (many_left (into_iter_len c.into_iter-edit-iterator.result) (into_iter_len c.into_iter-edits.result) c.args.edits c.in-Some.first (into_iter_items c.into_iter-edit-iterator.result) (begins c)
-    (ap (λ it. into_iter_len it + 1) c.into_iter-edit-iterator.ensures.into_iter_gives ∙ c.in-Some.ensures.len) c.into_iter-edits.ensures.len)
-    (ap (λ k. 4096 - k) (c.len.ensures ∙ ap into_iter_len (sym c.into_iter-edit-iterator.ensures.into_iter_gives))) c.in_ok-drafted.ensures.drafts c.in_ok-drafted.ensures.costs c.requires.front
+    goes_first c.args.image.now c.args.moment (4096 - c.len.result + c.locks_by-locks.result) (into_iter_len c.into_iter-edit-iterator.result) c.args.edits.items (into_iter_items c.into_iter-edit-iterator.result) c.in-Some.first c.args.front.now
+    c.in_ok-drafted.drafted c.requires.can (begins c) (others c)
+    (ap (λ k. 4096 - k + c.locks_by-locks.result) (c.len.ensures ∙ ap into_iter_len (sym c.into_iter-edit-iterator.ensures.into_iter_gives)) ∙ ap (λ k. 4096 - into_iter_len c.into_iter-edit-iterator.result + k) c.locks_by-locks.ensures)
+    c.in_ok-drafted.ensures.drafts c.in_ok-drafted.ensures.costs c.requires.front
 
 pub draft_next-requires-clause-rules : goal.draft_next-requires-clause-rules
 draft_next-requires-clause-rules c =
