@@ -4,7 +4,7 @@ use Rattle.wm_print.specs.Texts as texts
 use Rattle.wm_plan.specs.declared.answer.Answer.{Answer}
 use Rattle.wm_plan.specs.declared.answer.Answer.TheVariants.{Nothing, Fine, Done, Listing, Refused}
 use Rattle.wm_plan.specs.declared.seating.Seating.{Seating}
-use Rattle.wm_plan.specs.declared.seating.Seating.TheVariants.{Stay, Open, Close, Set}
+use Rattle.wm_plan.specs.declared.seating.Seating.TheVariants.{Stay, Open, Close, Set, Thaw}
 use Rattle.wm_plan.specs.Stands.{setting_view}
 
 abbrev pub answer_view : Answer → texts.Answer
@@ -19,3 +19,4 @@ seating_view Stay = planning.Stay
 seating_view (Open session) = planning.Open session
 seating_view (Close name) = planning.Close name
 seating_view (Set name setting) = planning.Set name (setting_view setting)
+seating_view (Thaw space) = planning.Thaw space

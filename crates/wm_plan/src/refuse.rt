@@ -1,7 +1,7 @@
 //! The refusals of lines.
 ghost use Rattle.std.specs.Prelude.{◌≡◌, IfOk};
 ghost use Rattle.wm_plan.specs.Views.{answer_view};
-ghost use Rattle.wm_model.specs.Step.{at_its_end, bad_literal, bad_name, change_limit, dependent_child, empty_period, has_child, in_conflict, key_there, long_name, mistyped, moment_back, most_rows, most_savepoints, most_sessions, most_tables, most_workspaces, no_history, no_key, no_parent, no_resolve, no_savepoint, no_session, no_table, no_workspace, no_text, not_built, not_latest, out_of_range, rebased_since, reserved_name, resolve_open, savepoint_there, session_inside, session_there, syntax, table_there, too_long_line, versioning, workspace_there};
+ghost use Rattle.wm_model.specs.Step.{already_frozen, at_its_end, bad_literal, bad_name, change_limit, dependent_child, empty_period, frozen, has_child, in_conflict, key_there, long_name, mistyped, moment_back, most_rows, most_savepoints, most_sessions, most_tables, most_workspaces, no_history, no_key, no_parent, no_resolve, no_savepoint, no_session, no_table, no_workspace, no_text, not_built, not_frozen, not_latest, out_of_range, rebased_since, reserved_name, resolve_open, savepoint_there, session_inside, session_there, syntax, table_there, too_long_line, versioning, workspace_there};
 
 use crate::answer::Answer;
 use std::alloc::Global;
@@ -169,6 +169,27 @@ pub fn no_parent(name: Name) -> Answer
     ensures { answer_view result ≡ no_parent name }
 {
     Answer::Refused(Refusal::Space(SpaceRefusal::Wm025(name)))
+}
+
+/// That a workspace is frozen, by the word of the mode in which it is.
+pub fn frozen(workspace: Name, mode: Name) -> Answer
+    ensures { answer_view result ≡ frozen workspace mode }
+{
+    Answer::Refused(Refusal::Space(SpaceRefusal::Wm040(workspace, mode)))
+}
+
+/// That a workspace is frozen already.
+pub fn already_frozen(workspace: Name) -> Answer
+    ensures { answer_view result ≡ already_frozen workspace }
+{
+    Answer::Refused(Refusal::Space(SpaceRefusal::Wm041(workspace)))
+}
+
+/// That a workspace is not frozen.
+pub fn not_frozen(workspace: Name) -> Answer
+    ensures { answer_view result ≡ not_frozen workspace }
+{
+    Answer::Refused(Refusal::Space(SpaceRefusal::Wm042(workspace)))
 }
 
 /// That a session stands where what it sees would go: in the workspace, or at a savepoint of it.

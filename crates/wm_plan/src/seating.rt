@@ -1,9 +1,9 @@
 //! What becomes of the sessions.
-ghost use Rattle.std.specs.Prelude.{◌≡◌, OnOk, if◌then◌else◌};
+ghost use Rattle.std.specs.Prelude.{◌≡◌, OnOk, if◌then◌else◌, map};
 ghost use Rattle.std.specs.Str.{bytes_eq};
 ghost use Rattle.wm_plan.specs.Stands.{setting_view};
 ghost use Rattle.wm_plan.specs.Views.{seating_view};
-ghost use Rattle.wm_model.specs.Planning.{seated};
+ghost use Rattle.wm_model.specs.Seating.{seated, thawed};
 ghost use Rattle.wm_model.specs.Step.{altered, closed, with_setting};
 
 use crate::session::{Session, Setting};
@@ -21,6 +21,8 @@ pub enum Seating {
     Close(Name),
     /// This is set of the one of this name.
     Set { name: Name, setting: Setting },
+    /// The workspace of this number is frozen for no session alone any more.
+    Thaw(u32),
 }
 
 /// Closes the sessions of a name.
@@ -61,6 +63,16 @@ fn alter(
     Ok(())
 }
 
+/// The workspace of a number is frozen for none of the sessions alone any more.
+fn thaw(sessions: &mut [Session], space: u32)
+    ensures { sessions.new ≡ map (thawed space) sessions.old }
+{
+    if let Some((session, rest)) = sessions.split_first_mut() {
+        session.thaw(space);
+        thaw(rest, space);
+    }
+}
+
 /// Does to the sessions what a line does to them.
 pub fn seat(alloc: Global, sessions: &mut Vec<Session>, seating: Seating) -> Result<(), Memory>
     ensures { OnOk result (sessions.new.items ≡ seated sessions.old.items (seating_view seating)) }
@@ -73,5 +85,9 @@ pub fn seat(alloc: Global, sessions: &mut Vec<Session>, seating: Seating) -> Res
             Ok(())
         }
         Seating::Set { name, setting } => alter(alloc, sessions, &name, &setting),
+        Seating::Thaw(space) => {
+            thaw(sessions, space);
+            Ok(())
+        }
     }
 }

@@ -1,10 +1,11 @@
 //! Who is connected, and where they stand.
-ghost use Rattle.std.specs.Prelude.{◌≡◌, None, is_some, true, OnOk};
+ghost use Rattle.std.specs.Prelude.{◌≡◌, [], None, is_some, true, OnOk};
 ghost use Rattle.std.specs.Option.{option_copied};
 ghost use Rattle.std.specs.Str.{bytes_eq};
 ghost use Rattle.wm_plan.specs.Stands.{setting_view, stand_view};
 ghost use Rattle.wm_graph.specs.Rules.{is_short};
-ghost use Rattle.wm_model.specs.Step.{session_of, with_setting};
+ghost use Rattle.wm_model.specs.Seating.{thawed};
+ghost use Rattle.wm_model.specs.Step.{holds, session_of, with_setting};
 ghost use Rattle.wm_model.specs.Step.Sessions as settings;
 ghost use Rattle.wm_state.specs.State.{Latest};
 
@@ -37,6 +38,8 @@ pub enum Setting {
     Decide(Vec<Decision>),
     /// That it has no resolve open.
     End,
+    /// A workspace, by number, that it freezes for itself alone.
+    Freeze(u32),
 }
 
 /// Somebody who is connected, under the name that lines begin with.
@@ -53,6 +56,8 @@ pub struct Session {
     conflict: Option<Name>,
     /// The resolve that it has open.
     resolve: Option<Resolve>,
+    /// The numbers of the workspaces that it froze for itself alone.
+    freezes: Vec<u32>,
 }
 
 impl Model for Session {
@@ -63,18 +68,18 @@ impl Model for Session {
 
     ghost Value = { SessionState };
 
-    ghost view = { λ s. record { name = s.name; user = s.user; space = s.space; stand = stand_view s.stand; period = s.period; conflict = s.conflict; resolve = s.resolve } };
+    ghost view = { λ s. record { name = s.name; user = s.user; space = s.space; stand = stand_view s.stand; period = s.period; conflict = s.conflict; resolve = s.resolve; freezes = s.freezes.items } };
 
     ghost invariant = { λ s. is_short s.user ≡ true };
 }
 
 impl Session {
     /// A session of this name for this user, which stands in LIVE at what is newest, for which neither a period nor a
-    /// workspace of conflicts is set, and which has no resolve open.
-    pub fn new(name: Name, user: Name) -> Session
+    /// workspace of conflicts is set, and which has no resolve open and froze no workspace.
+    pub fn new(alloc: Global, name: Name, user: Name) -> Session
         // An entry of a log has room for the user.
         requires { is_short user ≡ true }
-        ensures { result ≡ record { name = name; user = user; space = 0; stand = Latest; period = None; conflict = None; resolve = None } }
+        ensures { result ≡ record { name = name; user = user; space = 0; stand = Latest; period = None; conflict = None; resolve = None; freezes = [] } }
     {
         Session {
             name,
@@ -84,6 +89,7 @@ impl Session {
             period: None,
             conflict: None,
             resolve: None,
+            freezes: Vec::new(alloc),
         }
     }
 
@@ -128,6 +134,20 @@ impl Session {
         self.resolve.as_ref()
     }
 
+    /// Whether it froze the workspace of a number for itself alone.
+    pub fn holds(&self, space: u32) -> bool
+        ensures { result ≡ holds space self.now }
+    {
+        self.freezes.iter().any(|held| *held == space)
+    }
+
+    /// The workspace of a number is not frozen for it any more.
+    pub fn thaw(&mut self, space: u32)
+        ensures { self.new ≡ thawed space self.old }
+    {
+        self.freezes.retain(|held| *held != space);
+    }
+
     /// Puts copies of decisions behind those of the resolve that it has open.
     fn decide(&mut self, alloc: Global, decisions: &[Decision]) -> Result<(), Memory>
         ensures { OnOk result (self.new ≡ with_setting (settings.Decide decisions.now) self.old) }
@@ -165,6 +185,7 @@ impl Session {
             Setting::Begin(space) => self.resolve = Some(Resolve::new(alloc, *space)),
             Setting::Decide(decisions) => return self.decide(alloc, decisions.as_slice()),
             Setting::End => self.resolve = None,
+            Setting::Freeze(space) => self.freezes.insert(0, *space)?,
         }
         Ok(())
     }

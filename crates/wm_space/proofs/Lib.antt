@@ -3,6 +3,7 @@ pub mod Calling
 pub mod Creating
 pub mod Ended
 pub mod Lengths
+pub mod LocksHeld
 pub mod Marks
 pub mod SavepointPlans
 pub mod UndoingPlans

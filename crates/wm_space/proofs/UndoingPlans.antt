@@ -3,8 +3,8 @@ use Rattle.std.proofs.Common.{◌≡◌, ℕ, List, [], ◌∷◌, None, Result,
 use Rattle.wm_base.specs.declared.memory.Memory.{Memory}
 use Rattle.wm_graph.specs.Parts.{parts_of}
 use Rattle.wm_model.specs.Planning.{Does, Stay}
-use Rattle.wm_model.specs.Step.{remove_workspace, rollback_to}
-use Rattle.wm_model.specs.Undone.{NamesSpace, RollsIn, removing_refusal, rolling_refusal}
+use Rattle.wm_model.specs.Step.{rollback_to}
+use Rattle.wm_model.specs.Undone.{RollsIn, rolling_refusal}
 use Rattle.wm_print.specs.Texts.{Answer, Fine}
 use Rattle.wm_spec.specs.declared.record.savepoint.Savepoint.{Savepoint}
 use Rattle.wm_spec.specs.declared.record.space.Space.{Space}
@@ -29,19 +29,8 @@ pub rolls_edit : (rs : List Stored) (m : ℕ) (r : Result Planned Memory) (e : E
 rolls_edit rs m (Ok p) e a x made seats says does = λ xs workspace name among clear. edits_one rs xs m p e (rollback_to workspace name) made seats says (does xs workspace name among clear)
 rolls_edit rs m (Err e) one a x made seats says does = tt
 
-pub removes_edit : (rs : List Stored) (m : ℕ) (r : Result Planned Memory) (e : Edit) (a : Space) → IfOk r (λ p. p.edits.items ≡ e ∷ []) → IfOk r (λ p. p.seating ≡ seatings.Stay) → IfOk r (λ p. p.answer ≡ answers.Fine)
-    → ((xs : List Session) (workspace : List ℕ) → NamesSpace rs workspace a → removing_refusal (parts_of rs) xs a ≡ None → Does rs xs m (e ∷ []) Stay Fine (remove_workspace workspace))
-    → IfOk r (λ p. (xs : List Session) (workspace : List ℕ) → NamesSpace rs workspace a → removing_refusal (parts_of rs) xs a ≡ None → DoesIt rs xs m p (remove_workspace workspace))
-removes_edit rs m (Ok p) e a made seats says does = λ xs workspace names clear. edits_one rs xs m p e (remove_workspace workspace) made seats says (does xs workspace names clear)
-removes_edit rs m (Err e) one a made seats says does = tt
-
 -- a plan for whatever refuses nothing is one here
 pub rolls_as : (rs : List Stored) (xs : List Session) (m : ℕ) (r : Result Planned Memory) (workspace name : List ℕ) (a : Space) (x : Savepoint) → RollsIn rs workspace name a x → rolling_refusal (parts_of rs) xs a x ≡ None
     → IfOk r (λ p. (ys : List Session) (workspace name : List ℕ) → RollsIn rs workspace name a x → rolling_refusal (parts_of rs) ys a x ≡ None → DoesIt rs ys m p (rollback_to workspace name)) → IfOk r (λ p. DoesIt rs xs m p (rollback_to workspace name))
 rolls_as rs xs m (Ok p) workspace name a x among clear does = does xs workspace name among clear
 rolls_as rs xs m (Err e) workspace name a x among clear does = tt
-
-pub removes_as : (rs : List Stored) (xs : List Session) (m : ℕ) (r : Result Planned Memory) (workspace : List ℕ) (a : Space) → NamesSpace rs workspace a → removing_refusal (parts_of rs) xs a ≡ None
-    → IfOk r (λ p. (ys : List Session) (workspace : List ℕ) → NamesSpace rs workspace a → removing_refusal (parts_of rs) ys a ≡ None → DoesIt rs ys m p (remove_workspace workspace)) → IfOk r (λ p. DoesIt rs xs m p (remove_workspace workspace))
-removes_as rs xs m (Ok p) workspace a names clear does = does xs workspace names clear
-removes_as rs xs m (Err e) workspace a names clear does = tt

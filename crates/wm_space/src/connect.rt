@@ -44,7 +44,7 @@ pub fn connect(
     if sessions.len() >= SESSION_LIMIT {
         return Ok(Planned::answered(alloc, most_sessions()));
     }
-    let session = Session::new(name.copy(alloc)?, user.copy(alloc)?);
+    let session = Session::new(alloc, name.copy(alloc)?, user.copy(alloc)?);
     Ok(Planned::seated(alloc, Seating::Open(session)))
 }
 

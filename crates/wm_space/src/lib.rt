@@ -12,6 +12,7 @@ mod dependent;
 mod enable;
 pub mod ending;
 mod going;
+mod locks;
 mod looking;
 pub mod removing;
 mod rolling;

@@ -1,26 +1,30 @@
 //! RemoveWorkspace.
-ghost use Rattle.std.specs.Prelude.{◌≡◌, ◌<◌, ◌==◌, ℕ, List, true, None, IfOk};
+ghost use Rattle.std.specs.Prelude.{◌≡◌, ◌<◌, ◌==◌, true, IfOk};
 ghost use Rattle.std.specs.Option.{option_copied};
 ghost use Rattle.std.specs.List.{find};
 ghost use Rattle.wm_base.specs.declared.instant.TheConstants.{END};
 ghost use Rattle.wm_graph.specs.Parts.{parts_of};
 ghost use Rattle.wm_graph.specs.Rules.{keep_rules};
-ghost use Rattle.wm_model.specs.Step.{refusal_of, remove_workspace, session_inside};
-ghost use Rattle.wm_model.specs.Undone.{NamesSpace, going_refusal, removing_refusal};
+ghost use Rattle.wm_ground.specs.Grounds.{outline_on};
+ghost use Rattle.wm_ground.specs.Outcomes.{outcome_view};
+ghost use Rattle.wm_model.specs.Step.{first_fault, outcome, refusal_of, remove_workspace, session_inside};
+ghost use Rattle.wm_model.specs.Undone.{going_refusal};
+ghost use Rattle.wm_outcome.specs.Removing.{removing_faults, removing_plan};
+ghost use Rattle.wm_outline.specs.Outline.{outline_by};
 ghost use Rattle.wm_plan.specs.Idle.{Idles};
 ghost use Rattle.wm_plan.specs.Planning.{DoesIt};
 ghost use Rattle.wm_state.specs.State.{Session as SessionState};
 
-use crate::ending::ended;
 use std::alloc::Global;
 use wm_base::{Memory, Name, Refusal};
+use wm_ground::ground::Ground;
+use wm_ground::outcome::{answered, done_seated, refused};
 use wm_image::Image;
-use wm_plan::answer::Answer;
 use wm_plan::planned::Planned;
 use wm_plan::refuse::{has_child, no_parent, no_workspace, session_inside};
 use wm_plan::resolving::resolving_refusal;
+use wm_plan::seating::Seating;
 use wm_plan::session::Session;
-use wm_plan::work::is_spent;
 use wm_spec::record::Space;
 use wm_state::edit::Edit;
 
@@ -68,40 +72,50 @@ pub fn going_refusal(
     Ok(None)
 }
 
-/// What the removal of a workspace is refused for: that, or that a resolve of it is open.
-fn removing_refusal(
+/// What the removal of a workspace is refused for, in the order of the rows.
+fn removing_fault(
     alloc: Global,
-    image: &Image,
-    sessions: &[Session],
+    ground: Ground<'_>,
+    name: &[u8],
     space: &Space,
 ) -> Result<Option<Refusal>, Memory>
-    requires rules { keep_rules (parts_of image.now) ≡ true }
-    ensures { IfOk result (λ fault. fault ≡ removing_refusal (parts_of image.now) sessions.now space.now) }
+    ensures { IfOk result (λ fault. fault ≡ first_fault (removing_faults name.now (outline_on ground.entry) (outline_by (parts_of ground.entry.image.now) space.now))) }
 {
-    if let Some(refusal) = going_refusal(alloc, image, sessions, space)? {
+    if space.number == 0 {
+        return Ok(no_parent(Name::copy_of(alloc, name)?).into_refusal());
+    }
+    if let Some(session) = first_inside(ground.sessions, space.number) {
+        return inside_refusal(alloc, space, session);
+    }
+    if let Some(child) = ground.child_of(space.number) {
+        let child = has_child(space.name.copy(alloc)?, child.name.copy(alloc)?);
+        return Ok(child.into_refusal());
+    }
+    if let Some(refusal) = resolving_refusal(alloc, ground.sessions, space)? {
         return Ok(Some(refusal));
     }
-    resolving_refusal(alloc, sessions, space)
-}
-
-/// A workspace goes for which nothing refuses it, unless the work is at its end.
-fn remove(alloc: Global, image: &Image, moment: u64, space: &Space) -> Result<Planned, Memory>
-    requires rules { keep_rules (parts_of image.now) ≡ true }
-    requires moment { moment < END }
-    requires child { 0 < space.now.number }
-    ensures does { IfOk result (λ p. (xs : List SessionState) (workspace : List ℕ) → NamesSpace image.now workspace space.now → removing_refusal (parts_of image.now) xs space.now ≡ None → DoesIt image.now xs moment p (remove_workspace workspace)) }
-    ensures idle { IfOk result Idles }
-{
-    if is_spent(&image.counters()) {
-        return ended(alloc, b"WORK");
-    }
-    let edit = Edit::Remove {
-        space: space.number,
-    };
-    Planned::editing(alloc, edit, Answer::Fine)
+    ground.spent_refusal(alloc)
 }
 
 /// RemoveWorkspace ends a workspace, which is not LIVE.
+pub fn removing_plan(alloc: Global, ground: Ground<'_>, name: &[u8]) -> Result<Planned, Memory>
+    ensures { IfOk result (λ p. outcome_view p ≡ outcome (removing_plan name.now (outline_on ground.entry))) }
+{
+    let Some(space) = ground.space_named(name) else {
+        return Ok(answered(alloc, no_workspace(Name::copy_of(alloc, name)?)));
+    };
+    match removing_fault(alloc, ground, name, space)? {
+        Some(refusal) => Ok(refused(alloc, refusal)),
+        None => {
+            let edit = Edit::Remove {
+                space: space.number,
+            };
+            done_seated(alloc, edit, Seating::Thaw(space.number))
+        }
+    }
+}
+
+/// The same, as older plans are told.
 pub fn remove_workspace(
     alloc: Global,
     image: &Image,
@@ -114,14 +128,10 @@ pub fn remove_workspace(
     ensures does { IfOk result (λ p. DoesIt image.now sessions.now moment p (remove_workspace name.now)) }
     ensures idle { IfOk result Idles }
 {
-    let Some(space) = image.space_named(name) else {
-        return Ok(Planned::answered(alloc, no_workspace(Name::copy_of(alloc, name)?)));
+    let ground = Ground {
+        image,
+        sessions,
+        moment,
     };
-    if space.number == 0 {
-        return Ok(Planned::answered(alloc, no_parent(Name::copy_of(alloc, name)?)));
-    }
-    match removing_refusal(alloc, image, sessions, space)? {
-        Some(refusal) => Ok(Planned::answered(alloc, Answer::Refused(refusal))),
-        None => remove(alloc, image, moment, space),
-    }
+    removing_plan(alloc, ground, name)
 }

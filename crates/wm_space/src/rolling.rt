@@ -13,6 +13,7 @@ ghost use Rattle.wm_state.specs.State.{Session as SessionState};
 
 use crate::dependent::{first_dependent, is_marked_since};
 use crate::ending::ended;
+use crate::locks::are_before;
 use crate::removing::inside_refusal;
 use std::alloc::Global;
 use wm_base::{Memory, Name, Refusal};
@@ -83,13 +84,14 @@ fn rolling_refusal(
     resolving_refusal(alloc, sessions, space)
 }
 
-/// Whether nothing came behind a savepoint: neither a change nor another savepoint nor a mark.
+/// Whether nothing came behind a savepoint: neither a change nor another savepoint nor a mark nor a lock.
 fn is_still(image: &Image, space: &Space, savepoint: &Savepoint) -> bool
     ensures { result ≡ is_still_at (parts_of image.now) space.now savepoint.now }
 {
     space.log_length <= savepoint.log_length
         && !image.has_savepoint_behind(space.number, savepoint.place, savepoint.log_length)
         && !is_marked_since(image, savepoint.place, space.number)
+        && are_before(image, savepoint.place, space.number)
 }
 
 /// A workspace goes back to a savepoint for which nothing refuses it, unless the work is at its end. Where nothing came

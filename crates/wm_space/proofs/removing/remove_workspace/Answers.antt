@@ -1,33 +1,28 @@
-use Rattle.std.proofs.Common.{arith, [], sym, ap, ◌∙◌}
-use Rattle.wm_model.proofs.RemovingLine.{remove_homeless, remove_liveless, remove_refused}
-use Rattle.wm_model.specs.Planning.{Stay}
-use Rattle.wm_model.specs.Step.{no_parent, no_workspace, remove_workspace}
-use Rattle.wm_print.specs.Texts.{Refused}
-use Rattle.wm_plan.proofs.Planning.{told}
-use Rattle.wm_plan.specs.Views.{answer_view, seating_view}
-use Rattle.wm_space.proofs.UndoingPlans.{removes_as}
+use Rattle.std.proofs.Common.{[], refl, sym, subst}
+use Rattle.wm_graph.specs.Parts.{parts_of}
+use Rattle.wm_ground.proofs.Bridge.{does_value, idles_value, never_named}
+use Rattle.wm_model.specs.Planning.{SeatsStaged}
+use Rattle.wm_model.specs.Step.{Outcome, no_workspace, remove_workspace, space_named}
+use Rattle.wm_outcome.proofs.Named.{seats_named}
+use Rattle.wm_outcome.proofs.Removing.{can_remove}
+use Rattle.wm_outcome.proofs.RemovingAlike.{removes_alike}
+use Rattle.wm_outcome.specs.Removing.{removing, removing_plan}
+use Rattle.wm_outline.specs.Outline.{outline_of}
+use Rattle.wm_plan.proofs.Planning.{early}
 use Rattle.wm_space.proofs.removing.remove_workspace.Goals as goal
 
-pub returns-in_default-clause-does : goal.returns-in_default-clause-does
-returns-in_default-clause-does c =
-    told c.args.image.now c.args.sessions.now c.args.moment c.answered.result [] Stay (no_workspace c.args.name.now) (remove_workspace c.args.name.now) c.answered.ensures.edits (ap seating_view c.answered.ensures.seating)
-    (ap answer_view c.answered.ensures.answer ∙ c.no_workspace.ensures ∙ ap no_workspace c.in_ok-copy_of.ensures)
-    (remove_homeless c.args.image.now c.args.sessions.now c.args.moment c.args.name.now c.requires.rules (sym c.in_default.ensures))
+pub returns-clause-does : goal.returns-clause-does
+returns-clause-does c =
+    let name = c.args.name.now in
+    let p = parts_of c.args.image.now in
+    let o = outline_of p c.args.sessions.now c.args.moment in
+    does_value c.args.image.now c.args.sessions.now c.args.moment c.removing_plan.result (removing_plan name) (remove_workspace name) c.removing_plan.ensures
+    (can_remove c.args.image.now c.args.sessions.now c.args.moment c.requires.rules (early c.args.moment c.requires.moment) name)
+    (λ q is. subst (λ (r : Outcome). SeatsStaged p r.seating) (sym is) (seats_named [] (no_workspace name) (removing name o) p (λ x. tt) (space_named name o)))
+    (λ s st. removes_alike c.args.image.now c.args.sessions.now c.args.moment s st name)
 
-pub returns-then-space-eq0-clause-does : goal.returns-then-space-eq0-clause-does
-returns-then-space-eq0-clause-does c =
-    told c.args.image.now c.args.sessions.now c.args.moment c.answered-then-space-eq0.result [] Stay (no_parent c.args.name.now) (remove_workspace c.args.name.now) c.answered-then-space-eq0.ensures.edits
-    (ap seating_view c.answered-then-space-eq0.ensures.seating) (ap answer_view c.answered-then-space-eq0.ensures.answer ∙ c.no_parent.ensures ∙ ap no_parent c.in_ok-copy_of-2.ensures)
-    (remove_liveless c.args.image.now c.args.sessions.now c.args.moment c.args.name.now c.in-Some.space.now (record { rules = c.requires.rules; found = sym c.in-Some.ensures }) c.if-space-eq0.true)
-
-pub returns-in-Some-2-clause-does : goal.returns-in-Some-2-clause-does
-returns-in-Some-2-clause-does c =
-    told c.args.image.now c.args.sessions.now c.args.moment c.answered-in-Some-2.result [] Stay (Refused c.in-Some-2.refusal) (remove_workspace c.args.name.now) c.answered-in-Some-2.ensures.edits
-    (ap seating_view c.answered-in-Some-2.ensures.seating) (ap answer_view c.answered-in-Some-2.ensures.answer)
-    (remove_refused c.args.image.now c.args.sessions.now c.args.moment c.args.name.now c.in-Some.space.now c.in-Some-2.refusal (record { rules = c.requires.rules; found = sym c.in-Some.ensures })
-    (omega (arith, c.if-space-eq0.false)) (sym c.in_ok-refusal.ensures ∙ c.in-Some-2.is))
-
-pub returns-in-None-clause-does : goal.returns-in-None-clause-does
-returns-in-None-clause-does c =
-    removes_as c.args.image.now c.args.sessions.now c.args.moment c.remove.result c.args.name.now c.in-Some.space.now (record { rules = c.requires.rules; found = sym c.in-Some.ensures }) (sym c.in_ok-refusal.ensures ∙ c.in-None.is)
-    c.remove.ensures.does
+pub returns-clause-idle : goal.returns-clause-idle
+returns-clause-idle c =
+    let name = c.args.name.now in
+    let o = outline_of (parts_of c.args.image.now) c.args.sessions.now c.args.moment in
+    idles_value c.removing_plan.result (removing_plan name o) c.removing_plan.ensures (never_named [] (no_workspace name) (removing name o) (λ x. refl) (space_named name o))

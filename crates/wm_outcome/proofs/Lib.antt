@@ -1,0 +1,5 @@
+pub mod Faults
+pub mod Named
+pub mod Plans
+pub mod Removing
+pub mod RemovingAlike

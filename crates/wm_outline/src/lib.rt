@@ -1,0 +1,2 @@
+//! What is told of a state without what its lists hold.
+#![tactic(auto)]
