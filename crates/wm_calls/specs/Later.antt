@@ -24,6 +24,8 @@ is_later_procedure procedures.BeginResolve = false
 is_later_procedure procedures.ResolveConflicts = false
 is_later_procedure procedures.CommitResolve = false
 is_later_procedure procedures.RollbackResolve = false
+is_later_procedure procedures.FreezeWorkspace = false
+is_later_procedure procedures.UnfreezeWorkspace = false
 is_later_procedure _ = true
 
 abbrev pub is_later_name : Option Procedure → Bool

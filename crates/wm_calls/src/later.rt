@@ -27,7 +27,9 @@ fn is_later_procedure(procedure: Procedure) -> bool
         | Procedure::BeginResolve
         | Procedure::ResolveConflicts
         | Procedure::CommitResolve
-        | Procedure::RollbackResolve => false,
+        | Procedure::RollbackResolve
+        | Procedure::FreezeWorkspace
+        | Procedure::UnfreezeWorkspace => false,
         _ => true,
     }
 }

@@ -23,7 +23,7 @@ fresh_parts limit = record { counters = fresh_counters limit ∷ []; tables = []
 
 -- and what it keeps
 abbrev fresh_durable : ℕ → Durable
-fresh_durable limit = record { tables = []; spaces = fresh_live ∷ []; next_stamp = 1; last_moment = 0; limit = limit; work = 0 }
+fresh_durable limit = record { tables = []; spaces = fresh_live ∷ []; locks = []; next_stamp = 1; last_moment = 0; limit = limit; work = 0 }
 
 -- without pieces nothing is seen
 seen_none : (limit version : ℕ) (c : Cell) → seen (fresh_parts limit) version c ≡ None
@@ -160,7 +160,7 @@ fresh_stands limit some most = record {
     kept = λ n making w k is made. absurd (none_made n making w k is made);
   };
   marks = record { same = λ n w place c is. rw (one_live n w is) refl; real = λ n w is. rw (one_live n w is) (All-nil IsRealMark) };
-  later = record { locks = refl };
+  locks = record { same = refl };
   hists = record { same = λ n position. ap (λ es. option_and_then (λ (e : Entry). then_some (has_history [] e.table) (logged_as e)) (slice_get es position)) (sym (none_logged n)) };
   entries = record {
     logs = λ n. rw (none_logged n) (All-nil (IsReal []));

@@ -13,7 +13,7 @@ use Rattle.wm_spec.specs.declared.record.stored.Stored.{Stored}
 use Rattle.wm_state.specs.ById.{Ascend, applied}
 use Rattle.wm_forked.proofs.FewChanged.{forks_few}
 use Rattle.wm_state.specs.Drafts.{ChangesFew, Drafts, is_fork as is_fork_edit}
-use Rattle.wm_state.specs.Editing.{line_work, drafted as drafted_state}
+use Rattle.wm_state.specs.Editing.{locks_in, work_of, drafted as drafted_state}
 use Rattle.wm_state.specs.Standing.{Stands}
 use Rattle.wm_state.specs.State.{Durable, State, Session}
 use Rattle.wm_state.specs.declared.edit.Edit.{Edit}
@@ -90,10 +90,10 @@ kept_same rs new m es drafted none = drafted.is ∙ ap (λ cs. applied cs rs) (d
 -- edits are counted as work, so a line that counts none makes none
 pub workless_edits : (m : ℕ) (es : List Edit) (s : Durable) → (drafted_state m es s).work ≡ s.work → es ≡ []
 workless_edits m [] s same = refl
-workless_edits m (e ∷ es) s same = absurd (counts s.work same)
+workless_edits m (e ∷ es) s same = absurd (counts s.work (locks_in (e ∷ es)) same)
   where
-    counts : (w : ℕ) → w + 4096 ≡ w → ⊥
-    counts w h = omega (arith, h)
+    counts : (w locks : ℕ) → w + (locks + 4096) ≡ w → ⊥
+    counts w locks h = omega (arith, h)
 
 -- so is a plan that does what a line does which counts none
 pub workless_plan : (rs : List Stored) (xs : List Session) (m : ℕ) (es made : List Edit) (seating : Seating) (after : ℕ) (answer : Answer) (act : State → State × Answer) → DoesAt rs xs m es seating after answer act → made ≡ es
@@ -105,4 +105,4 @@ workless_plan rs xs m es made seating after answer act does same s st workless =
 pub kept_few : (rs new : List Stored) (m : ℕ) (es made : List Edit) → made ≡ es → AreDrafted rs m made new → (list_all is_fork_edit es ≡ true) × (length es ≤ 1) → ChangesFew rs new
 kept_few rs new m es made same drafted forks =
     subst (λ ss. ChangesFew rs ss) (sym drafted.is)
-    (forks_few line_work rs m made drafted.changes drafted.drafts (ap (list_all is_fork_edit) same ∙ forks.0) (subst (λ (ds : List Edit). length ds ≤ 1) (sym same) forks.1))
+    (forks_few (work_of made) rs m made drafted.changes drafted.drafts (ap (list_all is_fork_edit) same ∙ forks.0) (subst (λ (ds : List Edit). length ds ≤ 1) (sym same) forks.1))

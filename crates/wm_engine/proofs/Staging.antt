@@ -9,7 +9,7 @@ use Rattle.wm_base.specs.declared.value.Value.{Value}
 use Rattle.wm_decided.specs.Staged.{AreStaged, IsRestorable, IsStaged, IsStagedResolve, cells_of, copy_of}
 use Rattle.wm_gained.proofs.RowsBehind.{rows_found_next}
 use Rattle.wm_graph.specs.Parts.{Parts, parts_of, table_of}
-use Rattle.wm_model.specs.Planning.{Seating, SeatsStaged, SetsStaged, Stay, Open, Close, Set, seated}
+use Rattle.wm_model.specs.Planning.{Seating, SeatsStaged, SetsStaged, Stay, Open, Close, Set, Thaw, seated, thawed}
 use Rattle.wm_model.specs.Step.{Setting, with_decisions, with_setting}
 use Rattle.wm_model.specs.Step.Sessions as settings
 use Rattle.wm_net.specs.Listed.{Stretch}
@@ -106,6 +106,9 @@ edited_kept m (edits.Keep n) s = kept_where s (keep_in m s) (workspace_of s.spac
 edited_kept m (edits.Replay n entries) s = record { stamps = omega arith; tables = same_table s.tables }
 edited_kept m (edits.Gain n entries) s = record { stamps = omega arith; tables = same_table s.tables }
 edited_kept m (edits.Settle n marks) s = record { stamps = omega arith; tables = same_table s.tables }
+edited_kept m (edits.Lock n mode user cells) s = record { stamps = omega arith; tables = same_table s.tables }
+edited_kept m (edits.Unlock makings) s = record { stamps = omega arith; tables = same_table s.tables }
+edited_kept m (edits.Freeze n mode writer) s = record { stamps = omega arith; tables = same_table s.tables }
 edited_kept m (edits.Rebase n emptied) s = kept_some s (rebased_in n emptied s) (parent_of s.spaces n) (λ p. record { stamps = omega arith; tables = same_table s.tables })
 
 all_kept : (m : ℕ) (es : List Edit) (s : Durable) → Kept s (all_edited m es s)
@@ -194,6 +197,7 @@ set_staged p (settings.Period period) x new is = is
 set_staged p (settings.Conflict workspace) x new is = is
 set_staged p (settings.Begin space) x new is = All-nil (IsStaged p)
 set_staged p settings.End x new is = tt
+set_staged p (settings.Freeze space) x new is = is
 set_staged p (settings.Decide ds) x new is = by_resolve x.resolve is
   where
     by_resolve : (o : Option Resolve) → IsStagedResolve p o → IsStagedResolve p (option_map (with_decisions ds) o)
@@ -204,6 +208,7 @@ seated_staged : (p : Parts) (xs : List Session) (seating : Seating) → AreStage
 seated_staged p xs Stay staged new = staged
 seated_staged p xs (Open x) staged new = All-push (λ (x : Session). IsStagedResolve p x.resolve) xs x staged new
 seated_staged p xs (Close name) staged new = All-filter _ (λ (x : Session). IsStagedResolve p x.resolve) xs staged
+seated_staged p xs (Thaw space) staged new = All-map (λ (x : Session). IsStagedResolve p x.resolve) (thawed space) xs staged
 seated_staged p xs (Set name setting) staged new =
     All-map (λ (x : Session). IsStagedResolve p x.resolve) (λ (x : Session). if bytes_eq name x.name then with_setting setting x else x) xs
     (All-weaker (λ (x : Session). IsStagedResolve p x.resolve) (λ (x : Session). IsStagedResolve p (if bytes_eq name x.name then with_setting setting x else x).resolve) (λ x is. by_name x (bytes_eq name x.name) is) xs staged)

@@ -1,5 +1,5 @@
 -- What is asked before the edits of a refresh, where nothing refuses it and its entries can be written again.
-use Rattle.std.proofs.Common.{◌≡◌, ℕ, ◌+◌, ◌≤◌, ◌==◌, nat_lt, Bool, true, false, if◌then◌else◌, List, [], ◌∷◌, map, length, Option, Some, refl, ap, ◌∙◌, arith}
+use Rattle.std.proofs.Common.{◌≡◌, ℕ, ◌+◌, ◌≤◌, ◌==◌, nat_lt, Bool, true, false, if◌then◌else◌, List, [], ◌∷◌, map, length, Option, Some, refl, sym, ap, subst, ◌∙◌, arith}
 use Rattle.std.proofs.lemmas.Bool.{ne_eqb, and_parts}
 use Rattle.std.proofs.lemmas.Bool.Decides.{nat_tests}
 use Rattle.std.proofs.lemmas.List.{length-map}
@@ -18,7 +18,7 @@ use Rattle.wm_spec.specs.declared.record.stored.Stored.{Stored}
 use Rattle.wm_state.specs.ById.{Ascend}
 use Rattle.wm_state.specs.Copied.{KeyPieces}
 use Rattle.wm_state.specs.Drafts.{AreOld, CanDraft, CanEditAll, CanGain, CanRebase, CanReplay, CanWork, IsCopied, can_keep_entry}
-use Rattle.wm_state.specs.Editing.{counter_limit, entry_of, line_work}
+use Rattle.wm_state.specs.Editing.{counter_limit, entry_of, line_work, locks_in}
 use Rattle.wm_state.specs.Standing.{has_history, is_ready}
 use Rattle.wm_state.specs.State.{Session}
 use Rattle.wm_state.specs.declared.edit.Edit.{Edit}
@@ -32,6 +32,7 @@ use Rattle.wm_telling.specs.Telling.{AreFamily, IsHeldListing, gained_held}
 use Rattle.wm_telling.proofs.Replaying.{listed_copied, listed_old}
 use Rattle.wm_telling.proofs.Sorting.{listed_apart, listed_sorted}
 use Rattle.wm_telling.proofs.Storing.{Stores, stores_gained}
+use Rattle.wm_model.proofs.MergedEdits.{refresh_lockless}
 use Rattle.wm_model.proofs.RollingLine.{named_numbered}
 use Rattle.wm_model.specs.Merged.{NamesFamily, Refreshes, gain_edits, is_ready_entry, refresh_edits}
 use Rattle.wm_merge.proofs.Clear.{refresh_left}
@@ -101,9 +102,10 @@ module _ (p : Parts) (m : ℕ) (user : List ℕ) (c : Counters) (rules : keep_ru
 
 -- ---- edits
 
-pub can_draft : (rs : List Stored) (m : ℕ) (es : List Edit) → CanWork (parts_of rs) m line_work → length es ≤ 2048 → CanEditAll rs m es → CanDraft rs m es
-can_draft rs m [] work few can = tt
-can_draft rs m (e ∷ es) work few can = (work, few, can)
+-- of which none makes locks
+pub can_draft : (rs : List Stored) (m : ℕ) (es : List Edit) → locks_in es ≡ 0 → CanWork (parts_of rs) m line_work → length es ≤ 2048 → CanEditAll rs m es → CanDraft rs m es
+can_draft rs m [] none work few can = tt
+can_draft rs m (e ∷ es) none work few can = (subst (λ k. CanWork (parts_of rs) m (k + line_work)) (sym none) work, few, can)
 
 pub can_work : (p : Parts) (m : ℕ) (c : Counters) → p.counters ≡ c ∷ [] → nat_lt counter_limit (c.work + line_work) ≡ false → nat_lt m END ≡ true → CanWork p m line_work
 can_work p m c one spare early = record { counters = c; one = one; some = refl; room = spare; early = early }
@@ -135,7 +137,7 @@ pub drafts_refresh : (rs : List Stored) (m : ℕ) (xs : List Session) (session :
     → Refreshes rs m xs session workspace a b (map entry_of entries.items) → MayRefresh rs a ks (map entry_of entries.items) → nat_lt counter_limit (a.log_length + length entries.items) ≡ false
     → (parts_of rs).counters ≡ c ∷ [] → nat_lt counter_limit (c.work + line_work) ≡ false → nat_lt m END ≡ true → CanDraft rs m (refresh_edits a.number entries)
 drafts_refresh rs m xs session workspace a b ks c entries sorted refreshes may room one spare early =
-    can_draft rs m (refresh_edits a.number entries) (can_work (parts_of rs) m c one spare early) (omega (arith, few_gains a.number entries)) (by_none (length entries.items == 0) refl)
+    can_draft rs m (refresh_edits a.number entries) (refresh_lockless a.number entries) (can_work (parts_of rs) m c one spare early) (omega (arith, few_gains a.number entries)) (by_none (length entries.items == 0) refl)
   where
     rules : keep_rules (parts_of rs) ≡ true
     rules = refreshes.family.space.rules

@@ -21,6 +21,7 @@ use Rattle.wm_gained.specs.Merging as edited
 use Rattle.wm_gained.proofs.Merging.{can_merge}
 use Rattle.wm_telling.specs.Telling.{gained_held, own_held}
 use Rattle.wm_telling.proofs.Storing.{stores_gained, stores_own}
+use Rattle.wm_model.proofs.MergedEdits.{merge_lockless}
 use Rattle.wm_model.proofs.RemovingLine.{childless}
 use Rattle.wm_model.proofs.RollingLine.{named_numbered}
 use Rattle.wm_model.specs.Merged.{Merges, after_edits, is_even_at, keep_edits, leaving_refusal, merge_edits, replay_edits}
@@ -159,5 +160,5 @@ module _ (rs : List Stored) (m : ℕ) (xs : List Session) (session : Session) (a
 
   pub drafts_merge : Ascend rs → nat_lt counter_limit (c.work + line_work) ≡ false → nat_lt m END ≡ true → CanDraft rs m (merge_edits asked even a.number b.number own entries)
   drafts_merge sorted spare early =
-      can_draft rs m (merge_edits asked even a.number b.number own entries) (can_work (parts_of rs) m c one spare early) (few_merges asked even a.number b.number own entries)
+      can_draft rs m (merge_edits asked even a.number b.number own entries) (merge_lockless asked even a.number b.number own entries) (can_work (parts_of rs) m c one spare early) (few_merges asked even a.number b.number own entries)
       (subst (CanEditAll rs m) (sym (merge_is asked even a.number b.number own entries)) (can_merge rs m b.number a.number (merging asked even own entries) sorted rules can))

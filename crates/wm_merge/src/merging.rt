@@ -6,10 +6,11 @@ ghost use Rattle.wm_base.specs.declared.instant.TheConstants.{END};
 ghost use Rattle.wm_graph.specs.Parts.{parts_of};
 ghost use Rattle.wm_graph.specs.Rules.{keep_rules};
 ghost use Rattle.wm_merge.specs.Views.{asked_view, clashed};
-ghost use Rattle.wm_model.specs.Merged.{Merges, NamesFamily, after_edits, is_even_at, longer_log_at, merge_edits, merging_refusal};
+ghost use Rattle.wm_model.specs.Merged.{Merges, NamesFamily, after_edits, freeing, is_even_at, longer_log_at, merge_edits, merging_refusal};
 ghost use Rattle.wm_model.specs.Step.{counter_limit, merge_workspace};
 ghost use Rattle.wm_plan.specs.Idle.{Idles};
 ghost use Rattle.wm_plan.specs.Planning.{DoesIt};
+ghost use Rattle.wm_plan.specs.Views.{seating_view};
 ghost use Rattle.wm_spending.specs.Nets.{AreNets};
 ghost use Rattle.wm_state.specs.Editing.{entry_of};
 ghost use Rattle.wm_state.specs.State.{Session as SessionState};
@@ -30,6 +31,7 @@ use wm_plan::answer::Answer;
 use wm_plan::planned::Planned;
 use wm_plan::refuse::{no_parent, no_workspace, not_built};
 use wm_plan::resolving::resolving_refusal;
+use wm_plan::seating::Seating;
 use wm_plan::session::Session;
 use wm_plan::work::{is_long, is_spent};
 use wm_space::ending::ended;
@@ -164,6 +166,17 @@ fn merge_edits(
     Ok(edits)
 }
 
+/// What becomes of the sessions by a merge: where it removes the workspace, none holds that any more.
+fn freeing(asked: Asked, space: &Space) -> Seating
+    ensures { seating_view result ≡ freeing (asked_view asked) space.now.number }
+{
+    if asked.removes {
+        Seating::Thaw(space.number)
+    } else {
+        Seating::Stay
+    }
+}
+
 /// A workspace for which nothing refuses it is merged, unless a counter is at its end.
 fn merge_with(
     alloc: Global,
@@ -194,7 +207,8 @@ fn merge_with(
         return Ok(Planned::answered(alloc, not_built()));
     }
     image.law_of_order();
-    Ok(done(merge_edits(alloc, family, asked, even, brought)?))
+    let edits = merge_edits(alloc, family, asked, even, brought)?;
+    Ok(done(edits, freeing(asked, family.space)))
 }
 
 /// A workspace that is not LIVE is merged into its parent.

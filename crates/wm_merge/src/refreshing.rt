@@ -13,7 +13,6 @@ ghost use Rattle.wm_plan.specs.Idle.{Idles};
 ghost use Rattle.wm_plan.specs.Planning.{DoesIt};
 ghost use Rattle.wm_plan.specs.Views.{answer_view};
 ghost use Rattle.wm_plan.specs.declared.answer.Answer.TheVariants as answers;
-ghost use Rattle.wm_plan.specs.declared.seating.Seating.TheVariants as seatings;
 ghost use Rattle.wm_print.specs.Texts.{Fine, Refused};
 ghost use Rattle.wm_spec.specs.declared.record.space.Space.{Space as SpaceRecord};
 ghost use Rattle.wm_spending.specs.Nets.{AreNets};
@@ -58,15 +57,15 @@ pub fn push_gain(edits: &mut Vec<Edit>, space: u32, entries: Vec<NewEntry>) -> R
     Ok(())
 }
 
-/// A plan of edits, answered that they are made.
-pub fn done(edits: Vec<Edit>) -> Planned
+/// A plan of edits, and of what becomes of the sessions, answered that it is done.
+pub fn done(edits: Vec<Edit>, seating: Seating) -> Planned
     ensures edits { result.edits.items ≡ edits.items }
-    ensures seating { result.seating ≡ seatings.Stay }
+    ensures seating { result.seating ≡ seating }
     ensures answer { result.answer ≡ answers.Fine }
 {
     Planned {
         edits,
-        seating: Seating::Stay,
+        seating,
         answer: Answer::Fine,
     }
 }
@@ -139,7 +138,7 @@ fn refresh_with(
         return Ok(Planned::answered(alloc, not_built()));
     }
     image.law_of_order();
-    Ok(done(refresh_edits(alloc, space, entries)?))
+    Ok(done(refresh_edits(alloc, space, entries)?, Seating::Stay))
 }
 
 /// A workspace whose parent changed something since is refreshed.

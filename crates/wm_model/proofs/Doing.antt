@@ -5,7 +5,7 @@ use Rattle.wm_print.specs.Texts.{Answer}
 use Rattle.wm_spec.specs.declared.record.counters.Counters.{Counters}
 use Rattle.wm_spec.specs.declared.record.stored.Stored.{Stored}
 use Rattle.wm_state.specs.Drafts.{CanEdit, CanWork}
-use Rattle.wm_state.specs.Editing.{drafted, edited}
+use Rattle.wm_state.specs.Editing.{drafted, edited, work_of}
 use Rattle.wm_state.specs.State.{Session, State}
 use Rattle.wm_state.specs.declared.edit.Edit.{Edit}
 use Rattle.wm_state.proofs.Counting.{CountsAs, counts_as as counted_as}
@@ -27,14 +27,21 @@ does_seat rs xs m seating answer act staged same = record {
   does = λ s st. same s st ∙ ap (λ n. (record s { sessions = seated s.sessions seating; moment = n }, answer)) (sym st.moment_is);
 }
 
--- one edit is made
-pub does_edit : (rs : List Stored) (xs : List Session) (m : ℕ) (e : Edit) (answer : Answer) (act : State → State × Answer) → CanWork (parts_of rs) m line_work → CanEdit (parts_of rs) m e
-    → ((s : State) → StandsAt rs xs m s → act s ≡ (record s { durable = record (edited m e s.durable) { last_moment = m; work = s.durable.work + line_work } }, answer)) → Does rs xs m (e ∷ []) Stay answer act
-does_edit rs xs m e answer act work can same = record {
+-- one edit is made, and something becomes of the sessions
+pub does_edit_seat : (rs : List Stored) (xs : List Session) (m : ℕ) (e : Edit) (seating : Seating) (answer : Answer) (act : State → State × Answer) → SeatsStaged (parts_of rs) seating → CanWork (parts_of rs) m (work_of (e ∷ []))
+    → CanEdit (parts_of rs) m e
+    → ((s : State) → StandsAt rs xs m s → act s ≡ (record s { durable = record (edited m e s.durable) { last_moment = m; work = s.durable.work + work_of (e ∷ []) }; sessions = seated s.sessions seating }, answer))
+    → Does rs xs m (e ∷ []) seating answer act
+does_edit_seat rs xs m e seating answer act staged work can same = record {
   can = (work, omega arith, (can, λ given changes drafts. tt));
-  seats = tt;
-  does = λ s st. same s st ∙ ap (λ n. (record s { durable = drafted m (e ∷ []) s.durable; moment = n }, answer)) (sym st.moment_is);
+  seats = staged;
+  does = λ s st. same s st ∙ ap (λ n. (record s { durable = drafted m (e ∷ []) s.durable; sessions = seated s.sessions seating; moment = n }, answer)) (sym st.moment_is);
 }
+
+-- one edit is made alone
+pub does_edit : (rs : List Stored) (xs : List Session) (m : ℕ) (e : Edit) (answer : Answer) (act : State → State × Answer) → CanWork (parts_of rs) m (work_of (e ∷ [])) → CanEdit (parts_of rs) m e
+    → ((s : State) → StandsAt rs xs m s → act s ≡ (record s { durable = record (edited m e s.durable) { last_moment = m; work = s.durable.work + work_of (e ∷ []) } }, answer)) → Does rs xs m (e ∷ []) Stay answer act
+does_edit rs xs m e answer act work can same = does_edit_seat rs xs m e Stay answer act tt work can same
 
 -- ---- what is counted
 

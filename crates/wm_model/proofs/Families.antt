@@ -16,7 +16,7 @@ use Rattle.wm_spec.specs.declared.record.space.Space.{Space}
 use Rattle.wm_spec.specs.declared.record.stored.Stored.{Stored}
 use Rattle.wm_spec.specs.declared.record.table.Table.{Table}
 use Rattle.wm_state.specs.Drafts.{CanDraft}
-use Rattle.wm_state.specs.Editing.{all_edited, drafted, line_work}
+use Rattle.wm_state.specs.Editing.{all_edited, drafted, line_work, locks_in}
 use Rattle.wm_state.specs.declared.edit.Edit.{Edit}
 use Rattle.wm_state.specs.Standing.{HasRows, SpaceFields, held_of, seen}
 use Rattle.wm_state.specs.State.{Session, State, Workspace, fresh_live, workspace_of}
@@ -27,7 +27,7 @@ use Rattle.wm_telling.proofs.Beside.{Beside}
 use Rattle.wm_telling.proofs.Clashing.{clash_listed, clash_none}
 use Rattle.wm_telling.proofs.Relisting.{gained_listed, net_listed}
 use Rattle.wm_model.specs.Merged.{Clashed, IsClash, NamesFamily, clash_answer, clash_fault, is_quiet_at}
-use Rattle.wm_model.specs.Planning.{StandsAt, Does, Stay}
+use Rattle.wm_model.specs.Planning.{StandsAt, Does, Seating, SeatsStaged, Stay, seated}
 use Rattle.wm_model.specs.Step.{conflict_fault, conflict_told, gained_of, is_quiet, no_parent, no_workspace, parent_in, refusal_of, refused_for, with_named}
 use Rattle.wm_model.specs.Undone.{NamesSpace}
 use Rattle.wm_model.proofs.Doing.{does_nothing}
@@ -136,14 +136,18 @@ family rs xs m workspace a b s names st =
 
 -- ---- several edits
 
--- edits are made, one at least
-pub does_edits : (rs : List Stored) (xs : List Session) (m : ℕ) (es : List Edit) (answer : Answer) (act : State → State × Answer) → CanDraft rs m es → (es ≡ [] → ⊥)
-    → ((s : State) → StandsAt rs xs m s → act s ≡ (record s { durable = record (all_edited m es s.durable) { last_moment = m; work = s.durable.work + line_work } }, answer)) → Does rs xs m es Stay answer act
-does_edits rs xs m [] answer act can some same = absurd (some refl)
-does_edits rs xs m (e ∷ es) answer act can some same = record {
+-- edits are made, one at least and none that locks, and something becomes of the sessions
+pub does_edits : (rs : List Stored) (xs : List Session) (m : ℕ) (es : List Edit) (seating : Seating) (answer : Answer) (act : State → State × Answer) → SeatsStaged (parts_of rs) seating → CanDraft rs m es → (es ≡ [] → ⊥) → locks_in es ≡ 0
+    → ((s : State) → StandsAt rs xs m s → act s ≡ (record s { durable = record (all_edited m es s.durable) { last_moment = m; work = s.durable.work + line_work }; sessions = seated s.sessions seating }, answer))
+    → Does rs xs m es seating answer act
+does_edits rs xs m [] seating answer act staged can some lockless same = absurd (some refl)
+does_edits rs xs m (e ∷ es) seating answer act staged can some lockless same = record {
   can = can;
-  seats = tt;
-  does = λ s st. same s st ∙ ap (λ n. (record s { durable = drafted m (e ∷ es) s.durable; moment = n }, answer)) (sym st.moment_is);
+  seats = staged;
+  does = λ s st.
+      same s st
+      ∙ ap (λ k. (record s { durable = record (all_edited m (e ∷ es) s.durable) { last_moment = m; work = s.durable.work + (k + line_work) }; sessions = seated s.sessions seating }, answer)) (sym lockless)
+      ∙ ap (λ n. (record s { durable = drafted m (e ∷ es) s.durable; sessions = seated s.sessions seating; moment = n }, answer)) (sym st.moment_is);
 }
 
 -- ---- what is asked of both

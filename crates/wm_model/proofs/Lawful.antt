@@ -13,6 +13,7 @@ pub mod Staging
 pub mod Deciding
 pub mod Merging
 pub mod Resolving
+pub mod Freezing
 pub mod Step
 pub mod Runs
 pub mod Places

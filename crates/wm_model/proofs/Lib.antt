@@ -5,6 +5,7 @@ pub mod Enabling
 pub mod Going
 pub mod Steps
 pub mod Doing
+pub mod Barring
 pub mod Homes
 pub mod Named
 pub mod Newest

@@ -5,7 +5,7 @@ use Rattle.std.specs.Option.{option_and_then, option_map}
 use Rattle.std.specs.declared.alloc.Global.{Global}
 use Rattle.std.specs.declared.vec.Vec.{Vec}
 use Rattle.wm_spec.specs.Lists.{Entry}
-use Rattle.wm_state.specs.Editing.{all_edited, entry_of, gained_in, implicit_name, keep_in, kept_in, parent_of, rebased, rebased_in, rebased_so, replayed_in, without}
+use Rattle.wm_state.specs.Editing.{all_edited, entry_of, gained_in, implicit_name, keep_in, kept_in, locks_in, parent_of, rebased, rebased_in, rebased_so, replayed_in, unlocked_of, without}
 use Rattle.wm_state.specs.State.{Durable, Savepoint, Workspace, next_making, with_entries, with_gained, with_savepoint, with_space, workspace_of}
 use Rattle.wm_state.specs.declared.edit.Edit.{Edit}
 use Rattle.wm_state.specs.declared.edit.Edit.TheVariants as edits
@@ -144,7 +144,7 @@ kept_first keeps m q d = if keeps then kept_in m q.number d else d
 abbrev pub merged_by : Asked → Bool → ℕ → List Entry → List Entry → Workspace → Workspace → Durable → Durable
 merged_by asked even m own es q w d =
     let e = (if even then kept_first asked.keeps m q d else merged own es q w (kept_first asked.keeps m q d)) in
-    if asked.removes then record e { spaces = without w.number e.spaces } else e
+    if asked.removes then record e { spaces = without w.number e.spaces; locks = unlocked_of w.number e.locks } else e
 
 module _ (m : ℕ) (w q : Workspace) (d : Durable) (found : workspace_of d.spaces w.number ≡ Some w) (above : workspace_of d.spaces q.number ≡ Some q) (parent : w.parent ≡ q.number) (apart : w.number ≢ q.number) where
   -- the workspace and its parent, which may have a savepoint more
@@ -199,10 +199,10 @@ module _ (m : ℕ) (w q : Workspace) (d : Durable) (found : workspace_of d.space
   -- what comes behind
   all_after : (removes even : Bool) (own : List Entry) (entries : Vec NewEntry Global) (e : Durable) → Kept e.spaces → (even ≡ true → own ≡ []) → let es : List Entry = map entry_of entries.items in
       all_edited m (after_edits removes even w.number entries) (replayed_in q.number own e)
-      ≡ (let f = (if even then e else merged own es q w e) in if removes then record f { spaces = without w.number f.spaces } else f)
-  all_after true true own entries e k none = ap (λ (f : Durable). record f { spaces = without w.number f.spaces }) (replayed_none own e (none refl))
+      ≡ (let f = (if even then e else merged own es q w e) in if removes then record f { spaces = without w.number f.spaces; locks = unlocked_of w.number f.locks } else f)
+  all_after true true own entries e k none = ap (λ (f : Durable). record f { spaces = without w.number f.spaces; locks = unlocked_of w.number f.locks }) (replayed_none own e (none refl))
   all_after true false own entries e k none =
-      ap (λ (ws : List Workspace). record e { spaces = ws })
+      ap (λ (ws : List Workspace). record e { spaces = ws; locks = unlocked_of w.number e.locks })
       (sym (without-changed w.number (λ v. rebased true (with_entries own q) (with_gained (map entry_of entries.items) v)) (λ v. refl) (with_space q.number (with_entries own) e.spaces)))
   all_after false true own entries e k none = replayed_none own e (none refl)
   all_after false false own entries e k none = rebased_gained m w.number true (with_entries own q) entries (replayed_in q.number own e) (has_merged own e k)
@@ -214,6 +214,33 @@ module _ (m : ℕ) (w q : Workspace) (d : Durable) (found : workspace_of d.space
       ∙ all_edited_append m (replay_edits q.number own) (after_edits asked.removes even w.number entries) (kept_first asked.keeps m q d)
       ∙ ap (all_edited m (after_edits asked.removes even w.number entries)) (all_replayed m q.number own (kept_first asked.keeps m q d))
       ∙ all_after asked.removes even (map entry_of own.items) entries (kept_first asked.keeps m q d) (kept asked.keeps) none
+
+-- none of the edits locks
+gain_lockless : (n : ℕ) (entries : Vec NewEntry Global) → locks_in (gain_edits n entries) ≡ 0
+gain_lockless n entries = by_test (length entries.items == 0)
+  where
+    by_test : (b : Bool) → locks_in (cond b [] (edits.Gain n entries ∷ [])) ≡ 0
+    by_test true = refl
+    by_test false = refl
+
+pub refresh_lockless : (n : ℕ) (entries : Vec NewEntry Global) → locks_in (refresh_edits n entries) ≡ 0
+refresh_lockless n entries = ap (λ k. 0 + k) (gain_lockless n entries)
+
+pub merge_lockless : (asked : Asked) (even : Bool) (n parent : ℕ) (own entries : Vec NewEntry Global) → locks_in (merge_edits asked even n parent own entries) ≡ 0
+merge_lockless asked even n parent own entries = by_keeps asked.keeps (replay_edits parent own ++ after_edits asked.removes even n entries) (by_own (length own.items == 0) (by_tests asked.removes even))
+  where
+    by_tests : (b c : Bool) → locks_in (after_edits b c n entries) ≡ 0
+    by_tests true c = refl
+    by_tests false true = refl
+    by_tests false false = ap (λ k. 0 + k) (gain_lockless n entries)
+
+    by_own : (b : Bool) → locks_in (after_edits asked.removes even n entries) ≡ 0 → locks_in (cond b [] (edits.Replay parent own ∷ []) ++ after_edits asked.removes even n entries) ≡ 0
+    by_own true none = none
+    by_own false none = ap (λ k. 0 + k) none
+
+    by_keeps : (b : Bool) (es : List Edit) → locks_in es ≡ 0 → locks_in (keep_edits b parent ++ es) ≡ 0
+    by_keeps true es none = ap (λ k. 0 + k) none
+    by_keeps false es none = none
 
 -- a merge that does anything makes an edit
 pub merge_some : (asked : Asked) (even : Bool) (n k : ℕ) (own entries : Vec NewEntry Global) → (even && not (asked.keeps || asked.removes)) ≡ false → merge_edits asked even n k own entries ≡ [] → ⊥

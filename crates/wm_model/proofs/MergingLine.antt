@@ -1,5 +1,5 @@
 -- What MergeWorkspace does to each state that the records stand for.
-use Rattle.std.proofs.Common.{◌≡◌, ℕ, ◌+◌, ◌==◌, ◌&&◌, ◌||◌, not, max, nat_lt, length, Bool, true, false, cond, List, [], ◌∷◌, map, Option, Some, None, sym, ap, ◌∙◌, codes, arith, ◌⊎◌, inl, inr}
+use Rattle.std.proofs.Common.{◌≡◌, ℕ, ◌+◌, ◌==◌, ◌&&◌, ◌||◌, not, max, nat_lt, length, Bool, true, false, cond, List, [], ◌∷◌, map, Option, Some, None, refl, sym, ap, ◌∙◌, codes, arith, ◌⊎◌, inl, inr}
 use Rattle.std.proofs.lemmas.Bool.{and_from, and_parts, true≢false}
 use Rattle.std.specs.List.{find, list_all, list_any}
 use Rattle.std.specs.Str.{bytes_eq}
@@ -20,13 +20,13 @@ use Rattle.wm_state.specs.Standing.{SpaceFields}
 use Rattle.wm_state.specs.State.{Durable, Session, State, Workspace, workspace_of}
 use Rattle.wm_state.specs.declared.edit.NewEntry.{NewEntry}
 use Rattle.wm_telling.specs.Telling.{IsHeldListing, own_held}
-use Rattle.wm_model.specs.Merged.{Clashed, IsClash, Merges, NamesFamily, is_even_at, is_quiet_at, is_ready_entry, longer_log_at, merge_edits, merging_refusal}
-use Rattle.wm_model.specs.Planning.{StandsAt, Does, Stay}
-use Rattle.wm_model.specs.Step.{Asked, at_its_end, counter_limit, durably, first_fault, gained_of, is_even, line_work, merge, merge_workspace, merging_faults, no_parent, no_workspace, unless}
+use Rattle.wm_model.specs.Merged.{Clashed, IsClash, Merges, NamesFamily, freeing, is_even_at, is_quiet_at, is_ready_entry, longer_log_at, merge_edits, merging_refusal}
+use Rattle.wm_model.specs.Planning.{StandsAt, Does, SeatsStaged, Stay, Thaw, seated, thawed}
+use Rattle.wm_model.specs.Step.{Asked, at_its_end, counter_limit, durably, first_fault, freed_by, gained_of, is_even, line_work, merge, merge_workspace, merging_faults, no_parent, no_workspace, unless}
 use Rattle.wm_model.specs.Undone.{NamesSpace}
 use Rattle.wm_model.proofs.Doing.{does_nothing, not_spent_at, spent_at, spent_log}
 use Rattle.wm_model.proofs.Families.{Family, does_edits, does_homeless, does_liveless, family, gained_same, own_same}
-use Rattle.wm_model.proofs.MergedEdits.{all_merged, merge_some, merged_by, nothing_listed}
+use Rattle.wm_model.proofs.MergedEdits.{all_merged, merge_lockless, merge_some, merged_by, nothing_listed}
 use Rattle.wm_model.proofs.MergingFaults.{even_same, merging_same}
 use Rattle.wm_model.proofs.Unready.{gained_ready, net_ready, unturned}
 
@@ -61,7 +61,7 @@ merge_refused rs xs m session workspace asked a b found own refusal names clash 
 
 -- what is merged, and an answer
 abbrev merged_state : Asked → Bool → ℕ → State → Workspace → Workspace → List Entry → List Entry → State × Answer
-merged_state asked even m s q w own es = (record s { durable = merged_by asked even m own es q w s.durable }, Fine)
+merged_state asked even m s q w own es = (record s { durable = merged_by asked even m own es q w s.durable; sessions = freed_by asked w s.sessions }, Fine)
 
 -- the line where nothing refuses it, by whether there is anything to do
 merges : (rs : List Stored) (xs : List Session) (m : ℕ) (session : Session) (workspace : List ℕ) (asked : Asked) (a b : Space) (own es : List Entry) (idle : Bool) (s : State) (r : Merges rs m xs session asked workspace a b own es)
@@ -119,17 +119,36 @@ merge_unready rs xs m session workspace asked a b own es answer r bad =
         ∙ unready)
     never s st f (inr turned) = true≢false (sym turned ∙ unturned rs workspace a b xs m s st f)
 
+-- what becomes of the sessions leaves what is staged
+freeing_staged : (rs : List Stored) (asked : Asked) (n : ℕ) → SeatsStaged (parts_of rs) (freeing asked n)
+freeing_staged rs asked n = by_removes asked.removes
+  where
+    by_removes : (b : Bool) → SeatsStaged (parts_of rs) (cond b (Thaw n) Stay)
+    by_removes true = tt
+    by_removes false = tt
+
+-- and is what the line makes of them
+freeing_seats : (asked : Asked) (n : ℕ) (w : Workspace) (xs : List Session) → w.number ≡ n → freed_by asked w xs ≡ seated xs (freeing asked n)
+freeing_seats asked n w xs is = ap (λ k. cond asked.removes (map (thawed k) xs) xs) is ∙ by_removes asked.removes
+  where
+    by_removes : (b : Bool) → cond b (map (thawed n) xs) xs ≡ seated xs (cond b (Thaw n) Stay)
+    by_removes true = refl
+    by_removes false = refl
+
 pub does_merge : (rs : List Stored) (xs : List Session) (m : ℕ) (session : Session) (workspace : List ℕ) (asked : Asked) (a b : Space) (c : Counters) (own es : Vec NewEntry Global)
     → Merges rs m xs session asked workspace a b (map entry_of own.items) (map entry_of es.items) → (is_even_at a b (map entry_of own.items) && not (asked.keeps || asked.removes)) ≡ false
     → CanDraft rs m (merge_edits asked (is_even_at a b (map entry_of own.items)) a.number b.number own es) → nat_lt counter_limit (longer_log_at a b (map entry_of own.items) (map entry_of es.items)) ≡ false
     → (parts_of rs).counters ≡ c ∷ [] → nat_lt counter_limit (c.work + line_work) ≡ false
-    → Does rs xs m (merge_edits asked (is_even_at a b (map entry_of own.items)) a.number b.number own es) Stay Fine (merge_workspace session asked workspace)
+    → Does rs xs m (merge_edits asked (is_even_at a b (map entry_of own.items)) a.number b.number own es) (freeing asked a.number) Fine (merge_workspace session asked workspace)
 does_merge rs xs m session workspace asked a b c own es r some can short one spare =
-    does_edits rs xs m (merge_edits asked even a.number b.number own es) Fine (merge_workspace session asked workspace) can (merge_some asked even a.number b.number own es some)
+    does_edits rs xs m (merge_edits asked even a.number b.number own es) (freeing asked a.number) Fine (merge_workspace session asked workspace) (freeing_staged rs asked a.number) can
+    (merge_some asked even a.number b.number own es some) (merge_lockless asked even a.number b.number own es)
     (λ s st. let f = family rs xs m workspace a b s r.family st in
     merges rs xs m session workspace asked a b (map entry_of own.items) (map entry_of es.items) false s r st f some
     ∙ not_spent_at rs xs m s (longer_log_at a b (map entry_of own.items) (map entry_of es.items)) c (merged_state asked even m s f.q f.w (map entry_of own.items) (map entry_of es.items)) st one short spare
-    ∙ ap (λ (d : Durable). (record s { durable = record d { last_moment = m; work = s.durable.work + line_work } }, Fine)) (sym (made s f)))
+    ∙ ap (λ (d : Durable). (record s { durable = record d { last_moment = m; work = s.durable.work + line_work }; sessions = freed_by asked f.w s.sessions }, Fine)) (sym (made s f))
+    ∙ ap (λ (ys : List Session). (record s { durable = record (all_edited m (merge_edits asked even a.number b.number own es) s.durable) { last_moment = m; work = s.durable.work + line_work }; sessions = ys }, Fine))
+    (freeing_seats asked a.number f.w s.sessions f.is.number))
   where
     even : Bool
     even = is_even_at a b (map entry_of own.items)

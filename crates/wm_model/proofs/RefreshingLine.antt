@@ -30,7 +30,7 @@ use Rattle.wm_model.specs.Step.{at_its_end, counter_limit, durably, first_fault,
 use Rattle.wm_model.specs.Undone.{NamesSpace, resolving_refusal}
 use Rattle.wm_model.proofs.Doing.{does_nothing, not_spent_at, spent_at, spent_log}
 use Rattle.wm_model.proofs.Families.{Family, conflict_same, does_edits, does_homeless, does_liveless, family, gained_same, quiet_same}
-use Rattle.wm_model.proofs.MergedEdits.{all_refreshed}
+use Rattle.wm_model.proofs.MergedEdits.{all_refreshed, refresh_lockless}
 use Rattle.wm_model.proofs.RollingLine.{resolving_same}
 use Rattle.wm_model.proofs.Unready.{gained_ready, keys_kept, unturned}
 
@@ -148,7 +148,7 @@ pub does_refresh : (rs : List Stored) (xs : List Session) (m : ℕ) (session : S
     → CanDraft rs m (refresh_edits a.number entries) → nat_lt counter_limit (a.log_length + length entries.items) ≡ false → (parts_of rs).counters ≡ c ∷ [] → nat_lt counter_limit (c.work + line_work) ≡ false
     → Does rs xs m (refresh_edits a.number entries) Stay Fine (refresh_workspace session workspace)
 does_refresh rs xs m session workspace a b c entries r can short one spare =
-    does_edits rs xs m (refresh_edits a.number entries) Fine (refresh_workspace session workspace) can (λ none. absurd (cc))
+    does_edits rs xs m (refresh_edits a.number entries) Stay Fine (refresh_workspace session workspace) tt can (λ none. absurd (cc)) (refresh_lockless a.number entries)
     (λ s st. let f = family rs xs m workspace a b s r.family st in
     gains rs xs m session workspace a b es s r st f
     ∙ not_spent_at rs xs m s (a.log_length + length es) c (gained_in_state s f.q f.w es) st one (ap (λ n. nat_lt counter_limit (a.log_length + n)) (length-map entries.items entry_of) ∙ short) spare

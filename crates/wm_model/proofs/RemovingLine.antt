@@ -1,5 +1,5 @@
 -- What RemoveWorkspace does to each state that the records stand for.
-use Rattle.std.proofs.Common.{arith, ◌≡◌, ℕ, ◌<◌, ◌+◌, ◌==◌, nat_lt, nat_le, Bool, true, false, not, ◌&&◌, ◌||◌, cond, List, [], ◌∷◌, Option, Some, None, is_some, refl, sym, ap, ◌∙◌, codes}
+use Rattle.std.proofs.Common.{arith, ◌≡◌, ℕ, ◌<◌, ◌+◌, ◌==◌, nat_lt, nat_le, Bool, true, false, not, ◌&&◌, ◌||◌, cond, List, [], ◌∷◌, map, Option, Some, None, is_some, refl, sym, ap, ◌∙◌, codes}
 use Rattle.std.proofs.lemmas.Bool.{eqb-true, ne_eqb, not-true, true≢false}
 use Rattle.std.proofs.Math.Dec.{leb-zero}
 use Rattle.std.specs.List.{find, list_all}
@@ -14,7 +14,7 @@ use Rattle.wm_print.specs.Texts.{Fine, Refused}
 use Rattle.wm_spec.specs.declared.record.counters.Counters.{Counters}
 use Rattle.wm_spec.specs.declared.record.space.Space.{Space}
 use Rattle.wm_spec.specs.declared.record.stored.Stored.{Stored}
-use Rattle.wm_state.specs.Editing.{is_other, without}
+use Rattle.wm_state.specs.Editing.{is_other, unlocked_of, without}
 use Rattle.wm_state.specs.Firsts.{first_recorded, is_child_from}
 use Rattle.wm_state.specs.Standing.{SpaceFields}
 use Rattle.wm_state.specs.State.{Session, State, Workspace, workspace_of}
@@ -24,11 +24,11 @@ use Rattle.wm_state.proofs.Climbing.{parent_apart}
 use Rattle.wm_state.proofs.Mapped.{all-found}
 use Rattle.wm_state.proofs.Named.{space_number}
 use Rattle.wm_state.proofs.Spaces.{IsSpace, named_no_space, ruled_spaces}
-use Rattle.wm_model.specs.Planning.{StandsAt, Does, Stay}
+use Rattle.wm_model.specs.Planning.{StandsAt, Does, Stay, Thaw, thawed}
 use Rattle.wm_model.specs.Step.{at_its_end, counter_limit, first_fault, first_session, has_child, line_work, no_parent, no_workspace, refused_for, remove_workspace, session_inside, unless}
 use Rattle.wm_model.specs.Step.Undoing.{first_name, is_child, remove, removing_faults, resolving_fault, stands_in}
 use Rattle.wm_model.specs.Undone.{NamesSpace, first_child, going_refusal, removing_refusal, resolving_refusal}
-use Rattle.wm_model.proofs.Doing.{does_edit, does_nothing, not_spent_at, spent_at}
+use Rattle.wm_model.proofs.Doing.{does_edit_seat, does_nothing, not_spent_at, spent_at}
 use Rattle.wm_model.proofs.FirstChild.{first_same, none_first}
 use Rattle.wm_model.proofs.RollingLine.{fields_stand, home, named_numbered, pair, resolving_same}
 
@@ -104,7 +104,7 @@ remove_refused rs xs m workspace a refusal names some is =
 
 -- the state without the workspace
 abbrev gone_from : State → ℕ → State
-gone_from s n = record s { durable = record s.durable { spaces = without n s.durable.spaces } }
+gone_from s n = record s { durable = record s.durable { spaces = without n s.durable.spaces; locks = unlocked_of n s.durable.locks }; sessions = map (thawed n) s.sessions }
 
 pub remove_spent : (rs : List Stored) (xs : List Session) (m : ℕ) (workspace : List ℕ) (a : Space) (c : Counters) → NamesSpace rs workspace a → 0 < a.number → removing_refusal (parts_of rs) xs a ≡ None
     → (parts_of rs).counters ≡ c ∷ [] → nat_lt counter_limit (c.work + line_work) ≡ true → Does rs xs m [] Stay (at_its_end (codes "WORK")) (remove_workspace workspace)
@@ -152,11 +152,11 @@ childless rs xs workspace a names some clear =
         outside (r.parent == a.number) (r.number == a.number) r.birth_place (nat_le 0 r.from) other (not-true (is_child_from a.number 0 0 r) fails.1)
 
 pub does_remove : (rs : List Stored) (xs : List Session) (m : ℕ) (workspace : List ℕ) (a : Space) (c : Counters) → NamesSpace rs workspace a → 0 < a.number → removing_refusal (parts_of rs) xs a ≡ None
-    → (parts_of rs).counters ≡ c ∷ [] → nat_lt counter_limit (c.work + line_work) ≡ false → nat_lt m END ≡ true → Does rs xs m (edits.Remove a.number ∷ []) Stay Fine (remove_workspace workspace)
+    → (parts_of rs).counters ≡ c ∷ [] → nat_lt counter_limit (c.work + line_work) ≡ false → nat_lt m END ≡ true → Does rs xs m (edits.Remove a.number ∷ []) (Thaw a.number) Fine (remove_workspace workspace)
 does_remove rs xs m workspace a c names some clear one spare early =
-    does_edit rs xs m (edits.Remove a.number) Fine (remove_workspace workspace) (record { counters = c; one = one; some = refl; room = spare; early = early })
+    does_edit_seat rs xs m (edits.Remove a.number) (Thaw a.number) Fine (remove_workspace workspace) tt (record { counters = c; one = one; some = refl; room = spare; early = early })
     (record { some = some; there = ap is_some (named_numbered rs workspace a names); childless = childless rs xs workspace a names some clear })
     (λ s st. let h = home rs xs m workspace a s names st in
     by_refusal rs xs m workspace a s names st None some clear
     ∙ not_spent_at rs xs m s 0 c (gone_from s h.workspace.number, Fine) st one refl spare
-    ∙ ap (λ n. (record s { durable = record s.durable { spaces = without n s.durable.spaces; last_moment = m; work = s.durable.work + line_work } }, Fine)) h.is.number)
+    ∙ ap (λ n. (record s { durable = record (gone_from s n).durable { last_moment = m; work = s.durable.work + line_work }; sessions = map (thawed n) s.sessions }, Fine)) h.is.number)

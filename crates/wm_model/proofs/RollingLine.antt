@@ -6,6 +6,7 @@ use Rattle.std.proofs.Math.Dec.{leb-zero}
 use Rattle.std.specs.List.{find, list_all, list_any}
 use Rattle.std.specs.Option.{option_map, option_map_or}
 use Rattle.std.specs.Str.{bytes_eq}
+use Rattle.wm_base.proofs.Plain.{and_swap}
 use Rattle.wm_base.specs.declared.instant.TheConstants.{END}
 use Rattle.wm_base.specs.declared.refusal.Refusal.{Refusal as Fault}
 use Rattle.wm_graph.specs.Parts.{Parts, parts_of, space_of}
@@ -13,12 +14,13 @@ use Rattle.wm_graph.specs.Rules.{differ, keep_rules}
 use Rattle.wm_net.specs.Conflicts.{Settled}
 use Rattle.wm_print.specs.Texts.{Fine, Refused}
 use Rattle.wm_spec.specs.declared.record.counters.Counters.{Counters}
+use Rattle.wm_spec.specs.declared.record.lock.Lock.{Lock}
 use Rattle.wm_spec.specs.declared.record.savepoint.Savepoint.{Savepoint as Record}
 use Rattle.wm_spec.specs.declared.record.space.Space.{Space}
 use Rattle.wm_spec.specs.declared.record.stored.Stored.{Stored}
-use Rattle.wm_state.specs.Editing.{is_settled_below, restored_in, stays_at}
+use Rattle.wm_state.specs.Editing.{is_settled_below, restored_in, stays_at, stays_held}
 use Rattle.wm_state.specs.Firsts.{is_behind, is_saved_behind}
-use Rattle.wm_state.specs.Standing.{FieldsStand, SavepointFields, SpaceFields, Stands, fields_in, fields_of, fields_saved, saved_as, saved_fields, saved_in}
+use Rattle.wm_state.specs.Standing.{FieldsStand, SavepointFields, SpaceFields, Stands, fields_in, fields_of, fields_saved, locks_by_making, place_lock, saved_as, saved_fields, saved_in}
 use Rattle.wm_state.specs.State.{Durable, Savepoint, Session, Stand, State, Latest, At, Workspace, savepoint_made, savepoints_of, workspace_of}
 use Rattle.wm_state.specs.declared.edit.Edit.TheVariants as edits
 use Rattle.wm_state.proofs.Apart.{ruled}
@@ -141,6 +143,19 @@ all_below place (m ∷ ms) = ap (λ b. nat_lt m.place place && b) (all_below pla
     by_test b true d e = ap (λ t. t && not d) e
     by_test b false d e = ap (λ t. t && not d) e
 
+-- a test holds of all locks by making where it holds of all locks
+all_placed : (P : Lock → Bool) (x : Lock) (ys : List Lock) → list_all P (place_lock x ys) ≡ (P x && list_all P ys)
+all_placed P x [] = refl
+all_placed P x (y ∷ ys) = by_test (nat_lt y.making x.making) (all_placed P x ys)
+  where
+    by_test : (b : Bool) → list_all P (place_lock x ys) ≡ (P x && list_all P ys) → list_all P (cond b (y ∷ place_lock x ys) (x ∷ y ∷ ys)) ≡ (P x && (P y && list_all P ys))
+    by_test true rest = ap (λ c. P y && c) rest ∙ and_swap (P y) (P x) (list_all P ys)
+    by_test false rest = refl
+
+all_by_making : (P : Lock → Bool) (xs : List Lock) → list_all P (locks_by_making xs) ≡ list_all P xs
+all_by_making P [] = refl
+all_by_making P (x ∷ xs) = all_placed P x (locks_by_making xs) ∙ ap (λ c. P x && c) (all_by_making P xs)
+
 module _ (rs : List Stored) (xs : List Session) (m : ℕ) (workspace name : List ℕ) (a : Space) (x : Record) (s : State) (st : StandsAt rs xs m s) (w : Workspace) (k : Savepoint) (is : IsSpace (parts_of rs) s.durable a.number a w)
     (saved : IsSaved (parts_of rs) a.number w x k) where
   -- a savepoint stays where its record does
@@ -229,8 +244,15 @@ module _ (rs : List Stored) (xs : List Session) (m : ℕ) (workspace name : List
       ∙ ap not (sym (marked_since (parts_of rs) s.durable a.number w st.stands.marks st.stands.rules is.found k.place))
       ∙ ap (λ (f : SavepointFields). not (is_marked_since (parts_of rs) f.place a.number)) (sym saved.fields)
 
-  pub still_same : is_still w k ≡ is_still_at (parts_of rs) a x
-  still_same = λ i. still_logged i && still_settled i
+  still_held : list_all (stays_held w.number k.place) s.durable.locks ≡ list_all (stays_held a.number x.place) (parts_of rs).locks
+  still_held =
+      ap (λ n. list_all (stays_held n k.place) s.durable.locks) is.number
+      ∙ ap (λ (f : SavepointFields). list_all (stays_held a.number f.place) s.durable.locks) (sym saved.fields)
+      ∙ ap (list_all (stays_held a.number x.place)) (sym st.stands.locks.same)
+      ∙ all_by_making (stays_held a.number x.place) (parts_of rs).locks
+
+  pub still_same : is_still s.durable.locks w k ≡ is_still_at (parts_of rs) a x
+  still_same = λ i. (still_logged i && still_settled i) && still_held i
 
   pub made_in : savepoint_made x.making (savepoints_of s.durable.spaces a.number) ≡ Some k
   made_in = ap (savepoint_made x.making) (savepoints_of-found s.durable.spaces a.number w is.found) ∙ made_here

@@ -1,4 +1,5 @@
 pub mod Lines
+pub mod Seating
 pub mod Step
 pub mod Planning
 pub mod Saving

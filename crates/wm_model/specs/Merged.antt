@@ -24,6 +24,7 @@ use Rattle.wm_state.specs.declared.edit.Edit.TheVariants as edits
 use Rattle.wm_state.specs.declared.edit.NewEntry.{NewEntry}
 use Rattle.wm_telling.specs.Telling.{IsFirstClash, IsHeldListing, clash_held, gained_held, own_held}
 use Rattle.wm_print.specs.Texts.{Answer}
+use Rattle.wm_model.specs.Seating.{Seating, Stay, Thaw}
 use Rattle.wm_model.specs.Step.{Asked, at_its_end, first_fault, in_conflict, most_savepoints, number_limit, refused_for, refused_if, savepoint_there, told_period}
 use Rattle.wm_model.specs.Undone.{NamesSpace, going_refusal, resolving_refusal}
 
@@ -155,3 +156,7 @@ after_edits removes even n entries = if removes then edits.Remove n ∷ [] else 
 
 abbrev pub merge_edits : Asked → Bool → ℕ → ℕ → Vec NewEntry Global → Vec NewEntry Global → List Edit
 merge_edits asked even n parent own entries = keep_edits asked.keeps parent ++ (replay_edits parent own ++ after_edits asked.removes even n entries)
+
+-- and of the sessions: where the workspace goes, none holds it any more
+abbrev pub freeing : Asked → ℕ → Seating
+freeing asked n = if asked.removes then Thaw n else Stay

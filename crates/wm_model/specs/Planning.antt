@@ -1,5 +1,5 @@
 -- What a plan over the records of a store says that a line does and answers.
-use Rattle.std.specs.Prelude.{◌≡◌, ℕ, List, [], ◌∷◌, ◌++◌, Option, Some}
+use Rattle.std.specs.Prelude.{◌≡◌, ℕ, List, Option, Some}
 use Rattle.std.specs.Option.{option_map_or}
 use Rattle.std.specs.List.{All}
 use Rattle.wm_decided.specs.Staged.{AreStaged, IsStaged, IsStagedResolve}
@@ -7,10 +7,10 @@ use Rattle.wm_graph.specs.Parts.{Parts, parts_of}
 use Rattle.wm_print.specs.Texts.{Answer}
 use Rattle.wm_spec.specs.declared.record.stored.Stored.{Stored}
 use Rattle.wm_state.specs.Drafts.{CanDraft}
-use Rattle.wm_state.specs.Editing.{drafted}
 use Rattle.wm_state.specs.State.{State, Session, Stand, Latest, At, table_named}
 use Rattle.wm_model.specs.Lawful.{LawfulState}
-use Rattle.wm_model.specs.Step.{Setting, closed, altered, session_of}
+use Rattle.wm_model.specs.Step.{Setting, session_of}
+pub use Rattle.wm_model.specs.Seating.{Seating, Stay, Open, Close, Set, Thaw, seated, thawed, planned}
 use Rattle.wm_model.specs.Step.Sessions as settings
 use Rattle.wm_state.specs.Standing.{Stands, by_number, latest, saved_as}
 use Rattle.wm_spec.specs.declared.record.savepoint.Savepoint.{Savepoint}
@@ -29,23 +29,6 @@ pub record StandsAt (records : List Stored) (sessions : List Session) (moment : 
 pub record IsOpen (sessions : List Session) (session : Session) : Type 0 where
   pub name : List ℕ
   pub found : session_of name sessions ≡ Some session
-
--- what becomes of the sessions: nothing, one is opened, those of a name are closed, or something is set of them
-pub data Seating : Type 0 where
-  Stay : Seating
-  Open : (session : Session) → Seating
-  Close : (name : List ℕ) → Seating
-  Set : (name : List ℕ) (setting : Setting) → Seating
-
-abbrev pub seated : List Session → Seating → List Session
-seated sessions Stay = sessions
-seated sessions (Open x) = sessions ++ x ∷ []
-seated sessions (Close name) = closed name sessions
-seated sessions (Set name setting) = altered name setting sessions
-
--- the state with what a plan makes of it at a moment: its edits, what becomes of the sessions, and the moment behind it
-abbrev pub planned : ℕ → ℕ → List Edit → Seating → State → State
-planned m after edits seating s = record { durable = drafted m edits s.durable; sessions = seated s.sessions seating; moment = after }
 
 -- what is set of a session leaves it with nothing but decisions that are staged
 abbrev pub SetsStaged : Parts → Setting → Type 0

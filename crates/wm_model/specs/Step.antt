@@ -12,6 +12,10 @@ pub mod Workspaces
 pub mod Undoing
 pub mod Merging
 pub mod Resolving
+pub mod Places
+pub mod Plans
+pub mod Access
+pub mod Freezing
 pub mod Calling
 use Rattle.std.specs.Prelude.{ℕ, List, not, if◌then◌else◌, Option, None, Some, Result, Ok, Err}
 use Rattle.std.specs.Str.{is_utf8}
@@ -23,6 +27,7 @@ use Rattle.wm_calls.specs.Empty.{has_empty_period}
 use Rattle.wm_calls.specs.Later.{is_later}
 use Rattle.wm_timed.specs.Timed.{timed}
 use Rattle.wm_reader.specs.Reading.{is_remark}
+use Rattle.wm_outline.specs.Outline.{outline}
 use Rattle.wm_state.specs.State.{Session}
 use Rattle.wm_print.specs.Texts.{Nothing}
 pub use Rattle.wm_state.specs.State.{State, fresh}
@@ -30,7 +35,7 @@ use Rattle.wm_state.specs.State.{Session}
 pub use Rattle.wm_state.specs.Editing.{counter_limit, number_limit, line_work, implicit_front, implicit_name, saved_at, place_behind, saved, save_in, child_of, born, bear_in, written_all}
 pub use Rattle.wm_print.specs.Texts.{Answer, answer_text}
 use Rattle.wm_print.specs.Texts.{Nothing}
-pub use Rattle.wm_model.specs.Step.Refusing.{not_built, too_long_line, no_text, syntax, bad_literal, no_session, session_there, bad_name, long_name, mistyped, reserved_name, no_parent, session_inside, has_child, dependent_child, rebased_since, resolve_open, no_resolve, no_table, table_there, versioning, no_key, no_workspace, workspace_there, no_savepoint, no_history, savepoint_there, not_latest, moment_back, key_there, empty_period, in_conflict, change_limit, most_workspaces, most_savepoints, most_tables, most_rows, most_sessions, out_of_range, at_its_end, refusal_of, refused_if, refused_for, first_fault, unless, unless_mistyped, unless_empty_period}
+pub use Rattle.wm_model.specs.Step.Refusing.{not_built, too_long_line, no_text, syntax, bad_literal, no_session, session_there, bad_name, long_name, mistyped, reserved_name, no_parent, frozen, already_frozen, not_frozen, session_inside, has_child, dependent_child, rebased_since, resolve_open, no_resolve, no_table, table_there, versioning, no_key, no_workspace, workspace_there, no_savepoint, no_history, savepoint_there, not_latest, moment_back, key_there, empty_period, in_conflict, change_limit, most_workspaces, most_savepoints, most_tables, most_rows, most_sessions, out_of_range, at_its_end, refusal_of, refused_if, refused_for, first_fault, unless, unless_mistyped, unless_empty_period}
 pub use Rattle.wm_model.specs.Step.Counting.{durably}
 pub use Rattle.wm_model.specs.Step.Naming.{is_name, names_no_workspace, latest, names_no_savepoint, session_of, with_table, with_named, home_of, at_home}
 pub use Rattle.wm_model.specs.Step.Sessions.{closed, Setting, with_decisions, with_setting, altered, connect, disconnect, set_moment}
@@ -40,19 +45,27 @@ pub use Rattle.wm_model.specs.Step.Querying.{rows_in, table_asked, lost_source, 
 pub use Rattle.wm_model.specs.Step.Rows.{at_latest, at_newest, write_all, new_period, taken, told_period, add_to, add_found, insert, write_ascending, with_rows, clash_at, first_clash, move_all, change_all, replace_all, update, delete}
 pub use Rattle.wm_model.specs.Step.Savepoints.{save, saving_faults, create_savepoint, goto_savepoint}
 pub use Rattle.wm_model.specs.Step.Workspaces.{bear, counting_faults, bearing_faults, create_workspace, goto_workspace, set_conflict_workspace}
-pub use Rattle.wm_model.specs.Step.Undoing.{first_session, first_name, is_child, resolves, resolving_fault, would_go, stands_behind, settles_beyond, decides_beyond, depends, rolling_faults, is_still, roll_back, rollback_to, stands_in, removing_faults, remove, remove_workspace}
-pub use Rattle.wm_model.specs.Step.Merging.{parent_in, pending, is_quiet, sides, gained_of, conflict_told, conflict_fault, refreshing_faults, refreshed, refresh, refresh_workspace, Asked, is_even, leaving_faults, keeping_faults, merging_faults, merged, merged_with, merged_as, longer_log, merge, merge_workspace}
+pub use Rattle.wm_model.specs.Step.Undoing.{first_session, first_name, is_child, resolves, resolving_fault, would_go, stands_behind, settles_beyond, decides_beyond, depends, rolling_faults, is_still, roll_back, rollback_to, stands_in, removing_faults, removed, remove, remove_workspace}
+pub use Rattle.wm_model.specs.Step.Merging.{parent_in, pending, is_quiet, sides, gained_of, conflict_told, conflict_fault, refreshing_faults, refreshed, refresh, refresh_workspace, Asked, is_even, leaving_faults, keeping_faults, merging_faults, merged, merged_with, merged_as, longer_log, freed_by, merge, merge_workspace}
 pub use Rattle.wm_model.specs.Step.Resolving.{set_of, begin_resolve, has_open, unresolved_fault, rollback_resolve, decide, decide_on, unkeyed_fault, resolve_conflicts, resolved, commit, decisions_of, commit_resolve}
+pub use Rattle.wm_model.specs.Step.Places.{place, sooner, least}
+pub use Rattle.wm_model.specs.Step.Plans.{Plan, Outcome, refused_with, done_so, refused_or, outcome, comes, run, refusing, also, is_spent, spent, space_named, space_numbered, for_named, is_before, barred, barred_outcome}
+pub use Rattle.wm_model.specs.Step.Access.{holds, hold_on, hold_fault, Asks, asks_call, numbered_fault, named_fault, family_fault, asked_fault, workspace_given, frozen_call, frozen_fault}
+pub use Rattle.wm_model.specs.Step.Freezing.{mode_word, hold_worded, writer_given, hold_asked, spares_live, inside_fault, work_fault, freezing_edits, freezing_seating, freezing, freeze_faults, freeze_plan, thawing, unfreeze_plan}
 pub use Rattle.wm_model.specs.Step.Calling.{keep_in, keep_given, fault_around, merge_asked, given, newly_named, unless_latest, keeps_history, readiness_given, call, call_with}
 
--- whether a period in it is empty is told to each statement that may be refused for it
+-- what a statement does and answers, whatever is frozen; whether a period in it is empty is told to each statement that may be refused for it
+abbrev pub statement_done : Session → Statement → State → State × Answer
+statement_done session (Create name items) s = create name items s
+statement_done session (Insert name names values) s = insert session name names values (has_empty_period (Insert name names values)) s
+statement_done session (Update name sets filter) s = update session name sets filter (has_empty_period (Update name sets filter)) s
+statement_done session (Delete name filter) s = delete session name filter (has_empty_period (Delete name filter)) s
+statement_done session (Select query) s = select session query (has_empty_period (Select query)) s
+statement_done session (Call procedure args condition) s = call_with session (procedure_of procedure) args condition (has_empty_period (Call procedure args condition)) s
+
+-- and where a frozen workspace may refuse it
 abbrev pub run_statement : Session → Statement → State → State × Answer
-run_statement session (Create name items) s = create name items s
-run_statement session (Insert name names values) s = insert session name names values (has_empty_period (Insert name names values)) s
-run_statement session (Update name sets filter) s = update session name sets filter (has_empty_period (Update name sets filter)) s
-run_statement session (Delete name filter) s = delete session name filter (has_empty_period (Delete name filter)) s
-run_statement session (Select query) s = select session query (has_empty_period (Select query)) s
-run_statement session (Call procedure args condition) s = call_with session (procedure_of procedure) args condition (has_empty_period (Call procedure args condition)) s
+run_statement session statement s = barred (frozen_fault session statement (outline s)) s (statement_done session statement s)
 
 abbrev pub run_for : List ℕ → Option Session → Statement → State → State × Answer
 run_for name None statement s = (s, no_session name)

@@ -1,6 +1,6 @@
 -- What is looked up in the records where a workspace goes back to a savepoint, and where it goes.
 use Rattle.std.specs.Prelude.{ℕ, ◌≡◌, ◌+◌, Bool, true, false, not, ◌&&◌, ◌||◌, ◌==◌, nat_le, nat_lt, List, [], ◌∷◌, Option, Some, option_map}
-use Rattle.std.specs.List.{find, list_any}
+use Rattle.std.specs.List.{find, list_all, list_any}
 use Rattle.std.specs.Option.{option_map_or}
 use Rattle.std.specs.Str.{bytes_eq}
 use Rattle.wm_base.specs.declared.refusal.Refusal.{Refusal}
@@ -10,6 +10,7 @@ use Rattle.wm_spec.specs.declared.record.savepoint.Savepoint.{Savepoint}
 use Rattle.wm_spec.specs.declared.record.space.Space.{Space}
 use Rattle.wm_spec.specs.declared.record.stored.Stored.{Stored}
 use Rattle.wm_spec.specs.declared.record.trace.Trace.{Trace}
+use Rattle.wm_state.specs.Editing.{stays_held}
 use Rattle.wm_state.specs.Firsts.{first_recorded, is_behind, is_child_from, is_saved_behind}
 use Rattle.wm_state.specs.Standing.{saved_as, saved_in}
 use Rattle.wm_state.specs.State.{Session, Stand, Latest, At}
@@ -62,7 +63,8 @@ is_marked_since p place n = list_any (λ (m : Trace). (m.space == n) && nat_le p
 -- nothing came behind the savepoint
 abbrev pub is_still_at : Parts → Space → Savepoint → Bool
 is_still_at p a x =
-    (nat_le a.log_length x.log_length && not (list_any (is_saved_behind a.number x.place x.log_length) p.savepoints)) && not (is_marked_since p x.place a.number)
+    ((nat_le a.log_length x.log_length && not (list_any (is_saved_behind a.number x.place x.log_length) p.savepoints)) && not (is_marked_since p x.place a.number))
+    && list_all (stays_held a.number x.place) p.locks
 
 -- the workspace of a name is there
 pub record NamesSpace (rs : List Stored) (workspace : List ℕ) (a : Space) : Type 0 where

@@ -16,6 +16,7 @@ ghost use Rattle.wm_spending.specs.Nets.{AreNets};
 
 use std::alloc::Global;
 use wm_base::{Memory, Name};
+use wm_freezing::calls::{freeze_call, unfreeze_call};
 use wm_grammar::{Procedure, procedure_of};
 use wm_image::Image;
 use wm_merge::calls::{merge_call, refresh_call};
@@ -76,6 +77,10 @@ fn call_of(
             refresh_call(alloc, image, sessions, moment, session, args)
         }
         Procedure::MergeWorkspace => merge_call(alloc, image, sessions, moment, session, args),
+        Procedure::FreezeWorkspace => freeze_call(alloc, image, sessions, moment, session, args),
+        Procedure::UnfreezeWorkspace => {
+            unfreeze_call(alloc, image, sessions, moment, session, args)
+        }
         Procedure::BeginResolve => begin_call(alloc, image, sessions, session, args),
         Procedure::ResolveConflicts => {
             resolve_call(alloc, image, session, called.given, called.empty)

@@ -10,7 +10,7 @@ ghost use Rattle.wm_plan.specs.Planning.{DoesIt};
 ghost use Rattle.wm_graph.specs.Parts.{parts_of};
 ghost use Rattle.wm_graph.specs.Rules.{keep_rules};
 ghost use Rattle.wm_model.specs.Planning.{IsOpen};
-ghost use Rattle.wm_model.specs.Step.{run_for, run_statement, session_of};
+ghost use Rattle.wm_model.specs.Step.{run_for, run_statement, session_of, statement_done};
 ghost use Rattle.wm_spending.specs.Nets.{AreNets};
 
 use crate::plan::call::{Called, call};
@@ -19,6 +19,9 @@ use wm_base::{Memory, Name};
 use wm_calls::has_empty_period;
 use wm_change::change::{delete, update};
 use wm_change::insert::insert;
+use wm_freezing::asked::frozen_fault;
+use wm_ground::ground::Ground;
+use wm_ground::outcome::barred;
 use wm_image::Image;
 use wm_plan::given::Given;
 use wm_plan::planned::Planned;
@@ -28,8 +31,8 @@ use wm_space::create::create;
 use wm_syntax::statement::Statement;
 use wm_views::select::select;
 
-/// What a statement does and answers.
-fn run_statement(
+/// What a statement does and answers, whatever is frozen.
+fn statement_done(
     alloc: Global,
     image: &Image,
     sessions: &[Session],
@@ -40,7 +43,7 @@ fn run_statement(
     requires rules { keep_rules (parts_of image.now) ≡ true }
     requires moment { moment < END }
     requires open { IsOpen sessions.now session.now }
-    ensures does { IfOk result (λ p. DoesIt image.now sessions.now moment p (run_statement session.now (statement_view statement.now))) }
+    ensures does { IfOk result (λ p. DoesIt image.now sessions.now moment p (statement_done session.now (statement_view statement.now))) }
     ensures idle { IfOk result Idles }
     // A savepoint or a workspace is made by such an edit alone.
     ensures few { forks (statement_view statement.now) ≡ true → IfOk result AreForks }
@@ -91,6 +94,38 @@ fn run_statement(
             let given = Given { args, condition };
             let called = Called { given, empty };
             call(alloc, image, sessions, moment, session, procedure, called)
+        }
+    }
+}
+
+/// What a statement does and answers: where a workspace is frozen that it asks for, it is refused.
+fn run_statement(
+    alloc: Global,
+    image: &Image,
+    sessions: &[Session],
+    moment: u64,
+    session: &Session,
+    statement: &Statement,
+) -> Result<Planned, Memory>
+    requires rules { keep_rules (parts_of image.now) ≡ true }
+    requires moment { moment < END }
+    requires open { IsOpen sessions.now session.now }
+    ensures does { IfOk result (λ p. DoesIt image.now sessions.now moment p (run_statement session.now (statement_view statement.now))) }
+    ensures idle { IfOk result Idles }
+    ensures few { forks (statement_view statement.now) ≡ true → IfOk result AreForks }
+    ensures nets { (workspace : List ℕ) → nets (statement_view statement.now) ≡ Some workspace → IfOk result (λ p. AreNets image.now workspace p.edits.items) }
+{
+    let planned = statement_done(alloc, image, sessions, moment, session, statement)?;
+    let ground = Ground {
+        image,
+        sessions,
+        moment,
+    };
+    match frozen_fault(alloc, ground, session, statement) {
+        Ok(fault) => Ok(barred(alloc, fault, planned)),
+        Err(memory) => {
+            drop(planned);
+            Err(memory)
         }
     }
 }

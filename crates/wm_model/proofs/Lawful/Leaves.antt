@@ -1,5 +1,5 @@
 -- What a line does step by step leaves a lawful state: one law for each way in which Step puts it together, and one for each change.
-use Rattle.std.proofs.Common.{◌≡◌, ℕ, ◌+◌, Bool, true, false, not, nat_lt, if◌then◌else◌, List, [], ◌∷◌, ◌++◌, Option, Some, None, is_some, refl, ◌∙◌, arith}
+use Rattle.std.proofs.Common.{◌≡◌, ℕ, ◌+◌, Bool, true, false, not, nat_lt, if◌then◌else◌, List, [], ◌∷◌, ◌++◌, map, Option, Some, None, is_some, refl, ◌∙◌, arith}
 use Rattle.std.specs.List.{filter}
 use Rattle.std.specs.Str.{bytes_eq}
 use Rattle.wm_base.specs.declared.refusal.Refusal.{Refusal}
@@ -11,11 +11,12 @@ use Rattle.wm_state.specs.State as state
 use Rattle.wm_state.specs.State.{Durable, Savepoint, Session, State, Workspace, Latest, next_space, table_named, with_entries, with_savepoint, with_space, workspace_named, workspace_of}
 use Rattle.wm_state.proofs.Changing.{differ-changed}
 use Rattle.wm_model.specs.Lawful.{Each, IsPlace, IsSound, Lawful, LawfulState, Seats, staged_in}
-use Rattle.wm_model.specs.Step.{Setting, altered, at_latest, born, child_of, counter_limit, durably, given, is_name, latest, line_work, newly_named, no_table, no_workspace, place_behind, saved, saved_at, unless, unless_empty_period, unless_latest, unless_mistyped, with_named, with_setting, with_table, written_all}
+use Rattle.wm_model.specs.Seating.{planned, thawed}
+use Rattle.wm_model.specs.Step.{Plan, Setting, altered, at_latest, barred, born, child_of, comes, counter_limit, done_so, durably, given, is_before, is_name, latest, least, line_work, newly_named, no_table, no_workspace, place_behind, refused_or, run, saved, saved_at, unless, unless_empty_period, unless_latest, unless_mistyped, with_named, with_setting, with_table, written_all}
 use Rattle.wm_model.specs.Step.Sessions as settings
 use Rattle.wm_model.proofs.Lawful.Entries.{Written, all_more, all_saved, entries_more, mark_holds}
 use Rattle.wm_model.proofs.Lawful.Saving.{child_lawful, fits, space_appended, space_saved}
-use Rattle.wm_model.proofs.Lawful.Staging.{staged_altered, staged_with}
+use Rattle.wm_model.proofs.Lawful.Staging.{staged_altered, staged_thawed, staged_with}
 use Rattle.wm_model.proofs.Lawful.Spaces.{at_its_number, changed, child_based, goes_appended, goes_saved, none_at, numbered, seats_kept, seats_more, spaces_kept, spaces_more, under}
 
 -- what a line or a part of it leaves is lawful
@@ -76,6 +77,19 @@ leaves_newly_named name taken fault s done l d = leaves_if (not (is_name name)) 
 
 pub leaves_unless_latest : (name : List ℕ) (s : State) (done : State × Answer) → LawfulState s → Leaves done → Leaves (unless_latest name s done)
 leaves_unless_latest name s done l d = leaves_if (bytes_eq name latest) _ _ (stays s _ l) d
+
+-- a line that is refused for this too
+pub leaves_barred : (fault : Option Refusal) (s : State) (done : State × Answer) → LawfulState s → Leaves done → Leaves (barred fault s done)
+leaves_barred None s done l d = d
+leaves_barred (Some refusal) s done l d = leaves_if (is_before done.1 refusal) _ _ d (stays s _ l)
+
+-- a plan: what it does is lawful where nothing refuses it
+pub leaves_run : (p : Plan) (s : State) → LawfulState s → (least p.faults ≡ None → LawfulState (planned s.moment s.moment p.edits p.seating s)) → Leaves (run p s)
+leaves_run p s l done = by_fault (least p.faults) refl
+  where
+    by_fault : (fault : Option Refusal) → least p.faults ≡ fault → Leaves (comes (refused_or fault (done_so p)) s)
+    by_fault None clear = record { lawful = done clear }
+    by_fault (Some refusal) told = record { lawful = l }
 
 -- one rule for each combinator
 pub ruleset leaving = (stays, leaves_if, leaves_unless, leaves_unless_mistyped, leaves_durably, leaves_with_table, leaves_with_named, leaves_at_latest, leaves_unless_empty_period, leaves_given, leaves_newly_named, leaves_unless_latest, at_its_number)
@@ -233,3 +247,17 @@ leaves_period name period s answer l = leaves_set name (settings.Period period) 
 -- so with the workspace of conflicts
 pub leaves_conflict : (name workspace : List ℕ) (s : State) (answer : Answer) → LawfulState s → Leaves (record s { sessions = altered name (settings.Conflict workspace) s.sessions }, answer)
 leaves_conflict name workspace s answer l = leaves_set name (settings.Conflict workspace) s answer l (λ x old. old) tt
+
+-- and with a workspace that a session freezes for itself
+pub leaves_held : (name : List ℕ) (space : ℕ) (s : State) (answer : Answer) → LawfulState s → Leaves (record s { sessions = altered name (settings.Freeze space) s.sessions }, answer)
+leaves_held name space s answer l = leaves_set name (settings.Freeze space) s answer l (λ x old. old) tt
+
+-- no session holds a workspace any more, and nobody goes
+seats_thawed : (ws : List Workspace) (n : ℕ) (xs : List Session) → Seats ws xs → Seats ws (map (thawed n) xs)
+seats_thawed ws n [] s = tt
+seats_thawed ws n (x ∷ xs) s = (s.0, seats_thawed ws n xs s.1)
+
+pub leaves_thawed : (n : ℕ) (s : State) (answer : Answer) → LawfulState s → Leaves (record s { sessions = map (thawed n) s.sessions }, answer)
+leaves_thawed n s answer l =
+    leaves_seated s (map (thawed n) s.sessions) answer l (seats_thawed s.durable.spaces n s.sessions l.seats)
+    (staged_thawed (IsSound l.durable.entries.tells s.durable.next_stamp) n s.sessions l.durable.entries.staged)

@@ -8,11 +8,11 @@ use Rattle.wm_net.proofs.Merging.{merge_law, refresh_law}
 use Rattle.wm_net.proofs.Netting.{Alike-net, gained_is}
 use Rattle.wm_print.specs.Texts.{Fine}
 use Rattle.wm_spec.specs.Lists.{Alike, Entry, Told}
-use Rattle.wm_state.specs.Editing.{implicit_name, kept_in, saved, without}
+use Rattle.wm_state.specs.Editing.{implicit_name, kept_in, saved}
 use Rattle.wm_state.specs.State.{Durable, Savepoint, Session, Stand, Latest, At, Workspace, content, fresh_live, next_making, with_entries, with_savepoint, with_space, workspace_of}
 use Rattle.wm_state.proofs.Changing.{differ-changed, workspace_of-changed}
 use Rattle.wm_model.specs.Lawful.{Each, IsAt, IsSound, LawfulSpaces, LawfulState, Seats}
-use Rattle.wm_model.specs.Step.{Answer, Asked, State, first_fault, gained_of, has_child, is_child, is_even, is_quiet, leaving_faults, longer_log, merge, merge_workspace, merged, merged_with, merging_faults, no_parent, parent_in, pending, refresh, refresh_workspace, refreshed, refreshing_faults, session_inside, stands_in, unless}
+use Rattle.wm_model.specs.Step.{Answer, Asked, State, first_fault, gained_of, has_child, is_child, is_even, is_quiet, leaving_faults, longer_log, merge, merge_workspace, merged, merged_with, merging_faults, no_parent, parent_in, pending, refresh, refresh_workspace, refreshed, refreshing_faults, removed, session_inside, stands_in, unless}
 use Rattle.wm_model.proofs.Lawful.Entries.{AllHold, all_swapped, holds_appended}
 use Rattle.wm_model.proofs.Lawful.Firsts.{no_faults, none_inside, none_named, none_refused}
 use Rattle.wm_model.proofs.Lawful.Leaves.{Leaves, leaves_durably, leaves_if, leaves_saved, leaves_unless, leaves_with_named, stays}
@@ -200,21 +200,17 @@ alone_with true s w none removes = let h = no_faults (leaving_faults true s w) n
 alone_with false s w none removes = absurd (true≢false (sym removes))
 
 -- the workspace goes, where that is asked for
+abbrev gone : Bool → Workspace → State → State
+gone removes w s = record s { durable = if removes then (removed w s).durable else s.durable; sessions = if removes then (removed w s).sessions else s.sessions }
+
 leaves_removed : (removes : Bool) (w : Workspace) (s : State) (answer : Answer) → LawfulState s → 0 < w.number → (removes ≡ true → Alone s w)
-    → Leaves (record s { durable = if removes then record s.durable { spaces = without w.number s.durable.spaces } else s.durable }, answer)
+    → Leaves (gone removes w s, answer)
 leaves_removed true w s answer l above alone = let a = alone refl in leaves_left w s answer l above a.none a.away
 leaves_removed false w s answer l above alone = stays s _ l
 
 -- what is merged with the parent that is there
 leaves_merged : (removes : Bool) (user : List ℕ) (w p : Workspace) (s : State) → LawfulState s → 0 < w.number → workspace_of s.durable.spaces w.number ≡ Some w → workspace_of s.durable.spaces w.parent ≡ Some p → (removes ≡ true → Alone s w)
-    → Leaves (
-      record s {
-        durable =
-            let e = merged_with (net s.moment user w.lists.own) (gained_of s.moment user p w) p w s.durable in
-            if removes then record e { spaces = without w.number e.spaces } else e;
-      },
-      Fine,
-    )
+    → Leaves (gone removes w (record s { durable = merged_with (net s.moment user w.lists.own) (gained_of s.moment user p w) p w s.durable }), Fine)
 leaves_merged removes user w p s l above child parent alone = by_even (is_even p w)
   where
     own : List Entry
@@ -231,7 +227,7 @@ leaves_merged removes user w p s l above child parent alone = by_even (is_even p
     still : removes ≡ true → Alone (record s { durable = merged own es p w s.durable }) w
     still asked = let a = alone asked in record { none = none_merged own es p w s.durable a.none; away = a.away }
 
-    by_even : (b : Bool) → Leaves (record s { durable = let e = if b then s.durable else merged own es p w s.durable in if removes then record e { spaces = without w.number e.spaces } else e }, Fine)
+    by_even : (b : Bool) → Leaves (gone removes w (record s { durable = if b then s.durable else merged own es p w s.durable }), Fine)
     by_even true = leaves_removed removes w s Fine l above alone
     by_even false = leaves_removed removes w (record s { durable = merged own es p w s.durable }) Fine moved.lawful above still
 
@@ -246,14 +242,7 @@ kept_is : (moment : ℕ) (d : Durable) (p : Workspace) → workspace_of d.spaces
 kept_is moment d p found = rw found refl
 
 leaves_kept : (removes : Bool) (user : List ℕ) (w p : Workspace) (s : State) → LawfulState s → 0 < w.number → workspace_of s.durable.spaces w.number ≡ Some w → workspace_of s.durable.spaces w.parent ≡ Some p → (removes ≡ true → Alone s w)
-    → Leaves (
-      record s {
-        durable =
-            let e = merged_with (net s.moment user w.lists.own) (gained_of s.moment user p w) p w (kept_in s.moment p.number s.durable) in
-            if removes then record e { spaces = without w.number e.spaces } else e;
-      },
-      Fine,
-    )
+    → Leaves (gone removes w (record s { durable = merged_with (net s.moment user w.lists.own) (gained_of s.moment user p w) p w (kept_in s.moment p.number s.durable) }), Fine)
 leaves_kept removes user w p s l above child parent alone =
     rw (kept_is s.moment s.durable p known) (leaves_merged removes user w (act p) t kept.lawful above child_kept parent_kept still)
   where
@@ -287,14 +276,10 @@ leaves_merge session asked w p s l above child parent none =
     alone : asked.removes ≡ true → Alone s w
     alone = alone_with asked.removes s w (no_faults (merging_faults asked s p w) none).1.0
 
-    by_keeps : (b : Bool) → Leaves (
-      record s {
-        durable =
-            let e = merged_with (net s.moment session.user w.lists.own) (gained_of s.moment session.user p w) p w (if b then kept_in s.moment p.number s.durable else s.durable) in
-            if asked.removes then record e { spaces = without w.number e.spaces } else e;
-      },
-      Fine,
-    )
+    made : Bool → Durable
+    made keeps = merged_with (net s.moment session.user w.lists.own) (gained_of s.moment session.user p w) p w (if keeps then kept_in s.moment p.number s.durable else s.durable)
+
+    by_keeps : (b : Bool) → Leaves (gone asked.removes w (record s { durable = made b }), Fine)
     by_keeps true = leaves_kept asked.removes session.user w p s l above child parent alone
     by_keeps false = leaves_merged asked.removes session.user w p s l above child parent alone
 

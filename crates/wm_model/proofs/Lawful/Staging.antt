@@ -1,5 +1,5 @@
 -- What sessions have staged: what is so of each entry of it stays so, whatever is set of a session.
-use Rattle.std.proofs.Common.{◌≡◌, ℕ, Bool, true, false, if◌then◌else◌, List, [], ◌∷◌, ◌++◌, Option, Some, None, option_map, subst}
+use Rattle.std.proofs.Common.{◌≡◌, ℕ, Bool, true, false, if◌then◌else◌, List, [], ◌∷◌, ◌++◌, map, Option, Some, None, option_map, subst}
 use Rattle.std.proofs.lemmas.Option.{same_Some}
 use Rattle.std.specs.List.{filter, find, flat_map}
 use Rattle.std.specs.Option.{option_map_or}
@@ -7,6 +7,7 @@ use Rattle.std.specs.Str.{bytes_eq}
 use Rattle.wm_spec.specs.Lists.{Entry}
 use Rattle.wm_state.specs.State.{Resolve, Session}
 use Rattle.wm_model.specs.Lawful.{Each, staged_in, staged_of}
+use Rattle.wm_model.specs.Seating.{thawed}
 use Rattle.wm_model.specs.Step.{Setting, altered, decisions_of, with_decisions, with_setting}
 use Rattle.wm_model.specs.Step.Sessions as settings
 use Rattle.wm_model.proofs.Lawful.Entries.{each_append, each_split}
@@ -53,6 +54,7 @@ staged_set P (settings.Period period) x new each = each
 staged_set P (settings.Conflict workspace) x new each = each
 staged_set P (settings.Begin space) x new each = tt
 staged_set P settings.End x new each = tt
+staged_set P (settings.Freeze space) x new each = each
 staged_set P (settings.Decide ds) x new each = by_resolve x.resolve each
   where
     by_resolve : (o : Option Resolve) → Each P (flat_map staged_of (option_map_or (λ (r : Resolve). r.decisions) o [])) → Each P (flat_map staged_of (option_map_or (λ (r : Resolve). r.decisions) (option_map (with_decisions ds) o) []))
@@ -68,3 +70,9 @@ staged_altered P name setting (x ∷ xs) new each =
     by_name : (b : Bool) → Each P (staged_by x) → Each P (staged_by (if b then with_setting setting x else x))
     by_name true here = staged_set P setting x new here
     by_name false here = here
+
+-- sessions that do not hold a workspace any more
+pub staged_thawed : (P : Entry → Type 0) (n : ℕ) (xs : List Session) → Each P (staged_in xs) → Each P (staged_in (map (thawed n) xs))
+staged_thawed P n [] each = tt
+staged_thawed P n (x ∷ xs) each =
+    let h = each_split P (staged_by x) (staged_in xs) each in each_append P (staged_by x) (staged_in (map (thawed n) xs)) h.0 (staged_thawed P n xs h.1)

@@ -29,14 +29,16 @@ use Rattle.wm_model.specs.Entered.{entries_of}
 use Rattle.wm_model.specs.Lawful.{IsPlace, IsSound, LawfulState, is_full_row}
 use Rattle.wm_model.specs.Lines.{fits_line}
 use Rattle.wm_model.specs.Step.Sessions as settings
-use Rattle.wm_model.specs.Step.{Answer, State, add_found, add_to, altered, at_newest, bear, born, call, call_with, commit_resolve, connect, create, create_savepoint, create_workspace, delete, disconnect, durably, enable, first_clash, goto_savepoint, home_of, goto_workspace, implicit_name, insert, key_there, latest, lost_source, move_all, new_period, no_savepoint, no_table, no_text, replace_all, rows_in, run_for, run_line, run_parsed, run_statement, save, saved_at, select, select_from, select_ready, session_of, set_conflict_workspace, set_moment, set_valid_time, step, table_off, tables_of, taken, timed_line, told_period, too_long_line, update, versioning, with_rows, within, write_all, write_ascending}
-use Rattle.wm_model.proofs.Lawful.Leaves.{Leaves, leaves_born, leaves_conflict, leaves_durably, leaves_gone, leaves_if, leaves_period, leaves_saved, leaves_seated, leaves_tables, leaves_unless, leaves_with_named, leaves_written, leaving, live_place, seats_filter, seats_push, stays}
+use Rattle.wm_model.specs.Step.{Answer, State, add_found, add_to, altered, at_newest, bear, born, call, call_with, commit_resolve, connect, create, create_savepoint, create_workspace, delete, disconnect, durably, enable, first_clash, frozen_fault, goto_savepoint, home_of, goto_workspace, implicit_name, insert, key_there, latest, lost_source, move_all, new_period, no_savepoint, no_table, no_text, replace_all, rows_in, run_for, run_line, run_parsed, run_statement, save, saved_at, select, select_from, select_ready, session_of, set_conflict_workspace, set_moment, set_valid_time, statement_done, step, table_off, tables_of, taken, timed_line, told_period, too_long_line, update, versioning, with_rows, within, write_all, write_ascending}
+use Rattle.wm_model.proofs.Lawful.Freezing.{leaves_freeze, leaves_unfreeze}
+use Rattle.wm_model.proofs.Lawful.Leaves.{Leaves, leaves_barred, leaves_born, leaves_conflict, leaves_durably, leaves_gone, leaves_if, leaves_period, leaves_saved, leaves_seated, leaves_tables, leaves_unless, leaves_with_named, leaves_written, leaving, live_place, seats_filter, seats_push, stays}
 use Rattle.wm_model.proofs.Lawful.Places.{home_found, place_of}
 use Rattle.wm_model.proofs.Lawful.Rows.{are_full, chosen_full, content_full, entries_written, gone_full, is_full_change, keyed_row, moving_full, replacing_full, rows_full, updated_full}
 use Rattle.wm_model.proofs.Lawful.Merging.{leaves_merge_workspace, leaves_refresh_workspace}
 use Rattle.wm_model.proofs.Lawful.Resolving.{leaves_begin_resolve, leaves_commit_resolve, leaves_resolve_conflicts, leaves_rollback_resolve}
 use Rattle.wm_model.proofs.Lawful.Staging.{staged_filter, staged_push}
 use Rattle.wm_model.proofs.Lawful.Undoing.{leaves_remove_workspace, leaves_rollback_to}
+use Rattle.wm_outline.specs.Outline.{outline}
 use Rattle.wm_print.specs.Texts.{Done, Fine, Nothing}
 use Rattle.wm_reader.specs.Reading.{is_remark}
 use Rattle.wm_spec.specs.declared.record.table.Table.{Table}
@@ -45,9 +47,9 @@ use Rattle.wm_state.specs.State.{Readiness, Savepoint, Session, Stand, Latest, A
 
 -- ---- sessions and the moment
 
-leaves_opened : (name user : List ℕ) (s : State) → LawfulState s → Leaves (record s { sessions = s.sessions ++ record { name = name; user = user; space = 0; stand = Latest; period = None; conflict = None; resolve = None } ∷ [] }, Fine)
+leaves_opened : (name user : List ℕ) (s : State) → LawfulState s → Leaves (record s { sessions = s.sessions ++ record { name = name; user = user; space = 0; stand = Latest; period = None; conflict = None; resolve = None; freezes = [] } ∷ [] }, Fine)
 leaves_opened name user s l =
-    let x : Session = record { name = name; user = user; space = 0; stand = Latest; period = None; conflict = None; resolve = None } in
+    let x : Session = record { name = name; user = user; space = 0; stand = Latest; period = None; conflict = None; resolve = None; freezes = [] } in
     leaves_seated s (s.sessions ++ x ∷ []) Fine l (seats_push s.durable.spaces s.sessions x l.seats (live_place s.durable.spaces l.durable.spaces.live))
     (staged_push (IsSound l.durable.entries.tells s.durable.next_stamp) s.sessions x l.durable.entries.staged tt)
 
@@ -251,6 +253,8 @@ leaves_call session (Some procedures.RollbackToSp) args s l p one = search (leav
 leaves_call session (Some procedures.RemoveWorkspace) args s l p one = search (leaving, leaves_remove_workspace) depth 12
 leaves_call session (Some procedures.RefreshWorkspace) args s l p one = search (leaving, leaves_refresh_workspace) depth 12
 leaves_call session (Some procedures.MergeWorkspace) args s l p one = search (leaving, leaves_merge_workspace) depth 12
+leaves_call session (Some procedures.FreezeWorkspace) args s l p one = leaves_freeze session args s l
+leaves_call session (Some procedures.UnfreezeWorkspace) args s l p one = leaves_unfreeze args s l
 leaves_call session (Some procedures.BeginResolve) args s l p one = search (leaving, leaves_begin_resolve) depth 12
 leaves_call session (Some procedures.CommitResolve) args s l p one = search (leaving, leaves_commits) depth 12
 leaves_call session (Some procedures.RollbackResolve) args s l p one = search (leaving, leaves_rollback_resolve) depth 12
@@ -260,13 +264,17 @@ leaves_call_with : (session : Session) (procedure : Option Procedure) (args : Li
 leaves_call_with session (Some procedures.ResolveConflicts) args condition empty s l p one = search (leaving, leaves_resolve_conflicts) depth 12
 leaves_call_with session procedure args condition empty s l p one = leaves_call session procedure args s l p one
 
+leaves_done : (session : Session) (statement : Statement) (s : State) → LawfulState s → IsHere s session → IsOne s session → Leaves (statement_done session statement s)
+leaves_done session (Create name items) s l p one = leaves_create name items s l
+leaves_done session (Insert name names values) s l p one = leaves_insert session name names values _ s l p
+leaves_done session (Update name sets filter) s l p one = leaves_update session name sets filter _ s l p
+leaves_done session (Delete name filter) s l p one = leaves_delete session name filter _ s l p
+leaves_done session (Select query) s l p one = leaves_select session query _ s l
+leaves_done session (Call procedure args condition) s l p one = leaves_call_with session (procedure_of procedure) args condition _ s l p one
+
+-- whatever is frozen
 leaves_statement : (session : Session) (statement : Statement) (s : State) → LawfulState s → IsHere s session → IsOne s session → Leaves (run_statement session statement s)
-leaves_statement session (Create name items) s l p one = leaves_create name items s l
-leaves_statement session (Insert name names values) s l p one = leaves_insert session name names values _ s l p
-leaves_statement session (Update name sets filter) s l p one = leaves_update session name sets filter _ s l p
-leaves_statement session (Delete name filter) s l p one = leaves_delete session name filter _ s l p
-leaves_statement session (Select query) s l p one = leaves_select session query _ s l
-leaves_statement session (Call procedure args condition) s l p one = leaves_call_with session (procedure_of procedure) args condition _ s l p one
+leaves_statement session statement s l p one = leaves_barred (frozen_fault session statement (outline s)) s (statement_done session statement s) l (leaves_done session statement s l p one)
 
 leaves_for : (name : List ℕ) (o : Option Session) (statement : Statement) (s : State) → LawfulState s → session_of name s.sessions ≡ o → Leaves (run_for name o statement s)
 leaves_for name None statement s l is = stays s _ l

@@ -10,16 +10,16 @@ use Rattle.wm_base.specs.declared.refusal.Refusal.{Refusal}
 use Rattle.wm_net.proofs.Merging.{point_cut}
 use Rattle.wm_print.specs.Texts.{Fine}
 use Rattle.wm_spec.specs.Lists.{Entry}
-use Rattle.wm_state.specs.Editing.{is_other, restored, restored_in, stays_at, without}
+use Rattle.wm_state.specs.Editing.{is_other, restored, restored_in, stays_at, unlocked_of, without}
 use Rattle.wm_state.specs.State.{Durable, Savepoint, Session, Stand, Latest, At, Workspace, savepoint_made, savepoint_named, turn_of, with_space, workspace_of}
 use Rattle.wm_state.proofs.Changing.{differ-changed}
 use Rattle.wm_state.proofs.Mapped.{find-filter, find-passes}
 use Rattle.wm_state.proofs.Tests.{differ_filter}
 use Rattle.wm_model.specs.Lawful.{Based, Each, Holds, IsAt, IsPlace, IsSound, Lawful, LawfulMark, LawfulSpace, LawfulSpaces, LawfulState, Seats, one_number}
-use Rattle.wm_model.specs.Step.{Answer, State, dependent_child, depends, first_fault, has_child, is_child, no_parent, no_savepoint, rebased_since, remove, remove_workspace, removing_faults, roll_back, rollback_to, rolling_faults, is_still, session_inside, stands_behind, stands_in, unless, would_go}
+use Rattle.wm_model.specs.Step.{Answer, State, dependent_child, depends, first_fault, has_child, is_child, no_parent, no_savepoint, rebased_since, remove, remove_workspace, removed, removing_faults, roll_back, rollback_to, rolling_faults, is_still, session_inside, stands_behind, stands_in, unless, would_go}
 use Rattle.wm_model.proofs.Lawful.Entries.{all_swapped}
 use Rattle.wm_model.proofs.Lawful.Firsts.{no_faults, none_inside, none_named, none_refused, not_refused}
-use Rattle.wm_model.proofs.Lawful.Leaves.{Leaves, leaves_durably, leaves_if, leaves_with_named, stays}
+use Rattle.wm_model.proofs.Lawful.Leaves.{Leaves, leaves_durably, leaves_if, leaves_thawed, leaves_with_named, stays}
 use Rattle.wm_model.proofs.Lawful.Lists.{found_both}
 use Rattle.wm_model.proofs.Lawful.Spaces.{Becomes, Swapped, based_as_before, number_is, place_swapped, spaces_become, swapped}
 
@@ -215,21 +215,21 @@ place_left ws w x none p = record {
   stands = p.stands;
 }
 
-pub leaves_left : (w : Workspace) (s : State) (answer : Answer) → LawfulState s → 0 < w.number → NoChild s.durable.spaces w → list_any (stands_in w) s.sessions ≡ false
-    → Leaves (record s { durable = record s.durable { spaces = without w.number s.durable.spaces } }, answer)
-leaves_left w s answer l above none away = record {
-  lawful = record {
-    durable = record {
-      spaces = spaces_left s.durable.spaces w l.durable.spaces above none;
-      entries = record {
-        tells = l.durable.entries.tells;
-        each = λ n x found. l.durable.entries.each n x (was_found w.number n s.durable.spaces x found).1;
-        staged = l.durable.entries.staged;
-      };
+pub leaves_left : (w : Workspace) (s : State) (answer : Answer) → LawfulState s → 0 < w.number → NoChild s.durable.spaces w → list_any (stands_in w) s.sessions ≡ false → Leaves (removed w s, answer)
+leaves_left w s answer l above none away = leaves_thawed w.number (record s { durable = left }) answer (record {
+  durable = record {
+    spaces = spaces_left s.durable.spaces w l.durable.spaces above none;
+    entries = record {
+      tells = l.durable.entries.tells;
+      each = λ n x found. l.durable.entries.each n x (was_found w.number n s.durable.spaces x found).1;
+      staged = l.durable.entries.staged;
     };
-    seats = seats_unless s.durable.spaces (without w.number s.durable.spaces) (stands_in w) (λ x out. place_left s.durable.spaces w x out) s.sessions away l.seats;
   };
-}
+  seats = seats_unless s.durable.spaces (without w.number s.durable.spaces) (stands_in w) (λ x out. place_left s.durable.spaces w x out) s.sessions away l.seats;
+})
+  where
+    left : Durable
+    left = record s.durable { spaces = without w.number s.durable.spaces; locks = unlocked_of w.number s.durable.locks }
 
 -- ---- calls
 
@@ -244,7 +244,7 @@ leaves_roll_back w P k s l known found none =
     let inside = none_refused (session_inside w.name) (λ _. refl) _ h.0 in
     let dependent = none_refused dependent_child (λ _. refl) _ h.1.0 in
     let rebased = not_refused (not (k.rebases == w.rebases)) (rebased_since k.name) refl h.1.1.0 in
-    leaves_if (is_still w k) _ _ (stays s _ l)
+    leaves_if (is_still s.durable.locks w k) _ _ (stays s _ l)
     (leaves_durably s 0 _ l
     (leaves_restored w P k s Fine l known found (eqb-true k.rebases w.rebases (not-false (k.rebases == w.rebases) rebased)) (none_named (depends s.sessions w k) s dependent) (none_inside (stands_behind w k) s.sessions inside)))
 

@@ -14,10 +14,13 @@ use Rattle.wm_calls.specs.Takes.{is_written}
 use Rattle.wm_decided.specs.declared.keep.Keep.{Keep}
 use Rattle.wm_decided.specs.declared.keep.Keep.TheVariants.{Parent, Child, Base}
 use Rattle.wm_reader.specs.Reading.{folded}
+use Rattle.wm_outline.specs.Outline.{outline}
 use Rattle.wm_state.specs.State.{State, Session, Readiness}
 use Rattle.wm_print.specs.Texts.{Answer}
 use Rattle.wm_model.specs.Step.Refusing.{not_built, bad_name, mistyped, reserved_name, unless_mistyped}
 use Rattle.wm_model.specs.Step.Naming.{is_name, names_no_workspace, latest, names_no_savepoint}
+use Rattle.wm_model.specs.Step.Freezing.{freeze_plan, unfreeze_plan}
+use Rattle.wm_model.specs.Step.Plans.{run}
 use Rattle.wm_model.specs.Step.Tables.{enable}
 use Rattle.wm_model.specs.Step.Periods.{set_valid_time}
 use Rattle.wm_model.specs.Step.Rows.{taken}
@@ -111,6 +114,8 @@ call session (Some procedures.RefreshWorkspace) args s =
 call session (Some procedures.MergeWorkspace) args s =
     let fault = argument_fault procedures.MergeWorkspace args in
     unless_mistyped fault s (merge_workspace session (merge_asked args) (unwrap_or (text_given procedures.MergeWorkspace args parameters.Workspace) []) s)
+call session (Some procedures.FreezeWorkspace) args s = run (freeze_plan session args (outline s)) s
+call session (Some procedures.UnfreezeWorkspace) args s = run (unfreeze_plan args (outline s)) s
 call session (Some procedures.BeginResolve) args s =
     let fault = argument_fault procedures.BeginResolve args in
     unless_mistyped fault s (begin_resolve session (unwrap_or (text_given procedures.BeginResolve args parameters.Workspace) []) s)

@@ -1,5 +1,5 @@
 -- RefreshWorkspace and MergeWorkspace.
-use Rattle.std.specs.Prelude.{ℕ, ◌+◌, List, [], ◌∷◌, Bool, true, false, not, ◌&&◌, ◌||◌, ◌==◌, nat_le, nat_lt, if◌then◌else◌, length, drop, max, slice_get, is_some, Option, None, Some, codes}
+use Rattle.std.specs.Prelude.{ℕ, ◌+◌, List, [], ◌∷◌, Bool, true, false, not, ◌&&◌, ◌||◌, ◌==◌, nat_le, nat_lt, if◌then◌else◌, length, map, drop, max, slice_get, is_some, Option, None, Some, codes}
 use Rattle.wm_base.specs.declared.refusal.Refusal.{Refusal}
 use Rattle.wm_graph.specs.Parts.{table_of}
 use Rattle.wm_net.specs.Conflicts.{Stamps, conflicts}
@@ -9,9 +9,10 @@ use Rattle.wm_net.specs.Nets.{gained, net}
 use Rattle.wm_spec.specs.Lists.{Entry}
 use Rattle.wm_spec.specs.declared.record.table.Table.{Table}
 use Rattle.wm_state.specs.State.{Durable, State, Session, Workspace, savepoint_named, with_entries, with_gained, with_space}
-use Rattle.wm_state.specs.Editing.{implicit_name, kept_in, number_limit, rebased, without}
+use Rattle.wm_state.specs.Editing.{implicit_name, kept_in, number_limit, rebased, unlocked_of, without}
 pub use Rattle.wm_telling.specs.Sides.{sides}
 use Rattle.wm_print.specs.Texts.{Answer, Fine}
+use Rattle.wm_model.specs.Seating.{thawed}
 use Rattle.wm_model.specs.Step.Refusing.{at_its_end, first_fault, has_child, in_conflict, most_savepoints, no_parent, refused_for, refused_if, savepoint_there, session_inside, unless}
 use Rattle.wm_model.specs.Step.Counting.{durably}
 pub use Rattle.wm_model.specs.Step.Naming.{parent_in}
@@ -48,7 +49,7 @@ conflict_fault s p w = refused_for (conflict_told s.durable.tables) (slice_get (
 
 -- ---- a refresh
 
--- what RefreshWorkspace is refused for; whether it is frozen comes before
+-- what RefreshWorkspace is refused for
 abbrev pub refreshing_faults : State → Workspace → Workspace → List (Option Refusal)
 refreshing_faults s p w =
     resolving_fault s w
@@ -99,7 +100,7 @@ keeping_faults keeps p =
     ∷ refused_if (keeps && nat_lt number_limit (p.next_implicit + 1)) (at_its_end (codes "ICP"))
     ∷ []
 
--- what MergeWorkspace is refused for; whether the two are frozen comes behind the name, and locks behind the conflict
+-- what MergeWorkspace is refused for
 abbrev pub merging_faults : Asked → State → Workspace → Workspace → List (Option Refusal)
 merging_faults asked s p w =
     refused_if (asked.keeps && is_some (savepoint_named (implicit_name p) p.savepoints)) (savepoint_there (implicit_name p))
@@ -124,16 +125,21 @@ merged_as asked moment user p w d =
     let own = net moment user w.lists.own in
     let es = gained_of moment user p w in
     let e = merged_with own es p w (if asked.keeps then kept_in moment p.number d else d) in
-    if asked.removes then record e { spaces = without w.number e.spaces } else e
+    if asked.removes then record e { spaces = without w.number e.spaces; locks = unlocked_of w.number e.locks } else e
 
 -- the length of the longer of both logs
 abbrev pub longer_log : ℕ → List ℕ → Workspace → Workspace → ℕ
 longer_log moment user p w = max (length p.lists.log + length (net moment user w.lists.own)) (length w.lists.log + length (gained_of moment user p w))
 
+-- where the workspace goes, the session that froze it for itself, if one did, does not hold it any more
+abbrev pub freed_by : Asked → Workspace → List Session → List Session
+freed_by asked w sessions = if asked.removes then map (thawed w.number) sessions else sessions
+
 abbrev pub merge : Session → Asked → Workspace → Workspace → State → State × Answer
 merge session asked p w s =
     if is_even p w && not (asked.keeps || asked.removes) then (s, Fine) else
-    durably s (longer_log s.moment session.user p w) (record s { durable = merged_as asked s.moment session.user p w s.durable }, Fine)
+    durably s (longer_log s.moment session.user p w)
+    (record s { durable = merged_as asked s.moment session.user p w s.durable; sessions = freed_by asked w s.sessions }, Fine)
 
 -- MergeWorkspace brings what a workspace, which is not LIVE, has of its own into its parent
 abbrev pub merge_workspace : Session → Asked → List ℕ → State → State × Answer

@@ -5,7 +5,7 @@ use Rattle.wm_base.specs.declared.value.Value.{Value}
 use Rattle.wm_base.specs.declared.refusal.Refusal.TheVariants.{Form, Limit}
 use Rattle.wm_base.specs.declared.refusal.Refusal.TheVariants as refusals
 use Rattle.wm_base.specs.declared.refusal.FormRefusal.TheVariants.{Wm001, Wm002, Wm003, Wm004, Wm005, Wm010, Wm011, Wm013, Wm015, Wm016, Wm018, Wm019}
-use Rattle.wm_base.specs.declared.refusal.SpaceRefusal.TheVariants.{Wm020, Wm021, Wm022, Wm023, Wm024, Wm025, Wm030, Wm031, Wm033, Wm043, Wm044, Wm045, Wm046}
+use Rattle.wm_base.specs.declared.refusal.SpaceRefusal.TheVariants.{Wm020, Wm021, Wm022, Wm023, Wm024, Wm025, Wm030, Wm031, Wm033, Wm040, Wm041, Wm042, Wm043, Wm044, Wm045, Wm046}
 use Rattle.wm_base.specs.declared.refusal.CellRefusal.TheVariants.{Wm051, Wm052, Wm053, Wm060, Wm064, Wm065}
 use Rattle.wm_base.specs.declared.refusal.LimitRefusal.TheVariants.{Wm070, Wm071, Wm072, Wm073, Wm074, Wm075, Wm076, Wm099}
 use Rattle.wm_base.specs.declared.refusal.Refusal.{Refusal}
@@ -83,6 +83,16 @@ savepoint_there name = Refused (refusals.Space (Wm023 name))
 -- LIVE has no parent
 abbrev pub no_parent : List ℕ → Answer
 no_parent name = Refused (refusals.Space (Wm025 name))
+
+-- a workspace is frozen in a mode, is so already, or is not
+abbrev pub frozen : List ℕ → List ℕ → Answer
+frozen workspace mode = Refused (refusals.Space (Wm040 workspace mode))
+
+abbrev pub already_frozen : List ℕ → Answer
+already_frozen workspace = Refused (refusals.Space (Wm041 workspace))
+
+abbrev pub not_frozen : List ℕ → Answer
+not_frozen workspace = Refused (refusals.Space (Wm042 workspace))
 
 -- a session stands where what it sees would go
 abbrev pub session_inside : List ℕ → List ℕ → Answer

@@ -18,7 +18,7 @@ closed name sessions = filter (λ (x : Session). not (bytes_eq name x.name)) ses
 
 -- what is set of a session: where it stands; the period in which it sees and changes rows, which is what is left of time where there is none;
 -- the workspace whose conflicts it looks at, by name; a resolve of a workspace that it opens, decisions that come behind those of the one that it
--- has open, and that it closes the one
+-- has open, and that it closes the one; a workspace that it freezes for itself
 pub data Setting : Type 0 where
   Stand : (space : ℕ) (stand : state.Stand) → Setting
   Period : (period : Option Span) → Setting
@@ -26,6 +26,7 @@ pub data Setting : Type 0 where
   Begin : (space : ℕ) → Setting
   Decide : (decisions : List Decision) → Setting
   End : Setting
+  Freeze : (space : ℕ) → Setting
 
 -- a resolve with decisions more
 abbrev pub with_decisions : List Decision → Resolve → Resolve
@@ -38,19 +39,20 @@ with_setting (Conflict workspace) x = record x { conflict = Some workspace }
 with_setting (Begin space) x = record x { resolve = Some (record { space = space; decisions = [] }) }
 with_setting (Decide ds) x = record x { resolve = option_map (with_decisions ds) x.resolve }
 with_setting End x = record x { resolve = None }
+with_setting (Freeze space) x = record x { freezes = space ∷ x.freezes }
 
 -- it is set of a session of this name
 abbrev pub altered : List ℕ → Setting → List Session → List Session
 altered name setting sessions = map (λ (x : Session). if bytes_eq name x.name then with_setting setting x else x) sessions
 
 -- CONNECT opens a session, which stands in LIVE at what is newest, for which neither a period nor a workspace of conflicts is set, and which has
--- no resolve open
+-- no resolve open and froze no workspace
 abbrev pub connect : List ℕ → List ℕ → State → State × Answer
 connect name user s =
     if is_some (session_of name s.sessions) then (s, session_there name) else
     (if not (is_name name && is_name user) then (s, bad_name) else
     (if nat_le 256 (length s.sessions) then (s, most_sessions) else
-    (record s { sessions = s.sessions ++ record { name = name; user = user; space = 0; stand = Latest; period = None; conflict = None; resolve = None } ∷ [] }, Fine)))
+    (record s { sessions = s.sessions ++ record { name = name; user = user; space = 0; stand = Latest; period = None; conflict = None; resolve = None; freezes = [] } ∷ [] }, Fine)))
 
 -- DISCONNECT ends one
 abbrev pub disconnect : List ℕ → State → State × Answer

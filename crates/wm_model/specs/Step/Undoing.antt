@@ -1,13 +1,15 @@
 -- RollbackToSP and RemoveWorkspace.
-use Rattle.std.specs.Prelude.{ℕ, List, [], ◌∷◌, Bool, false, not, ◌&&◌, ◌||◌, ◌==◌, nat_le, nat_lt, if◌then◌else◌, length, Option, None, Some, option_map}
+use Rattle.std.specs.Prelude.{ℕ, List, [], ◌∷◌, Bool, false, not, ◌&&◌, ◌||◌, ◌==◌, nat_le, nat_lt, if◌then◌else◌, length, map, Option, None, Some, option_map}
 use Rattle.std.specs.List.{find, list_all, list_any}
 use Rattle.std.specs.Option.{option_map_or}
 use Rattle.wm_base.specs.declared.refusal.Refusal.{Refusal}
 use Rattle.wm_net.specs.Conflicts.{Settled}
+use Rattle.wm_spec.specs.declared.record.lock.Lock.{Lock}
 use Rattle.wm_state.specs.State.{State, Workspace, Savepoint, Session, Resolve, Decision, Stand, Latest, At, savepoint_made, savepoint_named}
-use Rattle.wm_state.specs.Editing.{is_settled_below, restored_in, stays_at, without}
+use Rattle.wm_state.specs.Editing.{is_settled_below, restored_in, stays_at, stays_held, unlocked_of, without}
 use Rattle.wm_state.specs.Firsts.{first_space}
 use Rattle.wm_print.specs.Texts.{Answer, Fine}
+use Rattle.wm_model.specs.Seating.{thawed}
 use Rattle.wm_model.specs.Step.Refusing.{dependent_child, has_child, no_parent, no_savepoint, rebased_since, resolve_open, session_inside, refused_for, refused_if, first_fault, unless}
 use Rattle.wm_model.specs.Step.Counting.{durably}
 use Rattle.wm_model.specs.Step.Naming.{with_named}
@@ -59,7 +61,7 @@ depends sessions w k c =
     is_child w c
     && ((nat_lt k.place c.birth_place || nat_lt k.log_length c.from) || (settles_beyond k.log_length c || list_any (decides_beyond k.log_length c.number) sessions))
 
--- what RollbackToSP is refused for in the workspace; whether it is frozen comes before
+-- what RollbackToSP is refused for in the workspace
 abbrev pub rolling_faults : State → Workspace → Savepoint → List (Option Refusal)
 rolling_faults s w k =
     refused_for (session_inside w.name) (first_session (stands_behind w k) s.sessions)
@@ -68,13 +70,15 @@ rolling_faults s w k =
     ∷ resolving_fault s w
     ∷ []
 
--- nothing came behind the savepoint: no change, no savepoint and no mark
-abbrev pub is_still : Workspace → Savepoint → Bool
-is_still w k = (nat_le (length w.lists.log) k.log_length && list_all (stays_at k) w.savepoints) && list_all (is_settled_below k.place) w.settled
+-- nothing came behind the savepoint: no change, no savepoint, no mark and no lock
+abbrev pub is_still : List Lock → Workspace → Savepoint → Bool
+is_still locks w k =
+    ((nat_le (length w.lists.log) k.log_length && list_all (stays_at k) w.savepoints) && list_all (is_settled_below k.place) w.settled)
+    && list_all (stays_held w.number k.place) locks
 
 -- the workspace is as it was at the savepoint
 abbrev pub roll_back : Workspace → Savepoint → State → State × Answer
-roll_back w k s = if is_still w k then (s, Fine) else durably s 0 (record s { durable = restored_in w.number s.durable k }, Fine)
+roll_back w k s = if is_still s.durable.locks w k then (s, Fine) else durably s 0 (record s { durable = restored_in w.number s.durable k }, Fine)
 
 -- RollbackToSP takes a workspace back to one of its savepoints
 abbrev pub rollback_to : List ℕ → List ℕ → State → State × Answer
@@ -90,7 +94,7 @@ rollback_to workspace name s = with_named s workspace (λ w. to w (savepoint_nam
 abbrev pub stands_in : Workspace → Session → Bool
 stands_in w x = x.space == w.number
 
--- what RemoveWorkspace is refused for; whether it is frozen comes before
+-- what RemoveWorkspace is refused for
 abbrev pub removing_faults : State → Workspace → List (Option Refusal)
 removing_faults s w =
     refused_for (session_inside w.name) (first_session (stands_in w) s.sessions)
@@ -98,9 +102,15 @@ removing_faults s w =
     ∷ resolving_fault s w
     ∷ []
 
--- the workspace is gone, with all that is its own
+-- a state without the workspace, with all that is its own; the session that froze it for itself, if one did, does not hold it any more
+abbrev pub removed : Workspace → State → State
+removed w s = record s {
+  durable = record s.durable { spaces = without w.number s.durable.spaces; locks = unlocked_of w.number s.durable.locks };
+  sessions = map (thawed w.number) s.sessions;
+}
+
 abbrev pub remove : Workspace → State → State × Answer
-remove w s = durably s 0 (record s { durable = record s.durable { spaces = without w.number s.durable.spaces } }, Fine)
+remove w s = durably s 0 (removed w s, Fine)
 
 -- RemoveWorkspace ends a workspace, which is not LIVE
 abbrev pub remove_workspace : List ℕ → State → State × Answer

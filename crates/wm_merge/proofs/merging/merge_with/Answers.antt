@@ -1,7 +1,7 @@
 use Rattle.std.proofs.Common.{[], ◌&&◌, ◌||◌, not, Bool, map, sym, ap, ◌∙◌, codes, inl, inr}
 use Rattle.std.proofs.lemmas.Result.{IfOk-weaker}
 use Rattle.wm_model.proofs.MergingLine.{does_merge, merge_idle, merge_long, merge_spent, merge_unready}
-use Rattle.wm_model.specs.Merged.{is_even_at, merge_edits}
+use Rattle.wm_model.specs.Merged.{freeing, is_even_at, merge_edits}
 use Rattle.wm_model.specs.Planning.{Stay}
 use Rattle.wm_model.specs.Step.{at_its_end, counter_limit, merge_workspace, not_built}
 use Rattle.wm_space.proofs.Ended.{told_ended}
@@ -59,10 +59,10 @@ returns-clause-does c = λ xs session workspace merges.
     told c.args.image.now xs c.args.moment c.done.result
     (merge_edits (asked_view c.args.asked) (is_even_at c.args.family.space.now c.args.family.parent.now (map entry_of c.args.brought.own.items)) c.args.family.space.now.number c.args.family.parent.now.number c.args.brought.own
     c.args.brought.gained)
-    Stay Fine (merge_workspace session (asked_view c.args.asked) workspace)
-    (c.done.ensures.edits ∙ c.in_ok-merge_edits.ensures
+    (freeing (asked_view c.args.asked) c.args.family.space.now.number) Fine (merge_workspace session (asked_view c.args.asked) workspace)
+    (c.done.ensures.edits ∙ c.in_ok-edits.ensures
     ∙ ap (λ (e : Bool). merge_edits (asked_view c.args.asked) e c.args.family.space.now.number c.args.family.parent.now.number c.args.brought.own c.args.brought.gained) even)
-    (ap seating_view c.done.ensures.seating) (ap answer_view c.done.ensures.answer)
+    (ap seating_view c.done.ensures.seating ∙ c.freeing.ensures) (ap answer_view c.done.ensures.answer)
     (does_merge c.args.image.now xs c.args.moment session workspace (asked_view c.args.asked) c.args.family.space.now c.args.family.parent.now c.counters.result c.args.brought.own c.args.brought.gained merges
     (ap (λ e. e && not (c.args.asked.keeps || c.args.asked.removes)) (sym even) ∙ sym c.if-is_idle.ensures)
     (drafts_merge c.args.image.now c.args.moment xs session (asked_view c.args.asked) workspace c.args.family.space.now c.args.family.parent.now c.counters.result c.args.brought.own c.args.brought.gained merges may
@@ -87,5 +87,5 @@ pub returns-clause-edits : goal.returns-clause-edits
 returns-clause-edits c =
     let even = even_told c.args.family.space.now c.args.family.parent.now c.as_slice.result.now c.args.brought.own.items c.is_even-even.result c.as_slice.ensures.value c.is_even-even.ensures in
     inr
-    (c.done.ensures.edits ∙ c.in_ok-merge_edits.ensures
+    (c.done.ensures.edits ∙ c.in_ok-edits.ensures
     ∙ ap (λ (e : Bool). merge_edits (asked_view c.args.asked) e c.args.family.space.now.number c.args.family.parent.now.number c.args.brought.own c.args.brought.gained) even)

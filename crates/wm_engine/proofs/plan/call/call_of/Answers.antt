@@ -69,6 +69,16 @@ returns-in-MergeWorkspace-clause-does c =
     does_here c.args.image.now c.args.sessions.now c.args.moment c.merge_call.result (call c.args.session.now (Some procedures.MergeWorkspace) c.args.called.given.args.now) (call_with c.args.session.now (Some c.args.procedure) c.args.called.given.args.now (filter_view c.args.called.given.condition.now) c.args.called.empty)
     (λ s. ap (λ (p : Procedure). call_with c.args.session.now (Some p) c.args.called.given.args.now (filter_view c.args.called.given.condition.now) c.args.called.empty s) c.in-MergeWorkspace.is) c.merge_call.ensures.does
 
+pub returns-in-FreezeWorkspace-clause-does : goal.returns-in-FreezeWorkspace-clause-does
+returns-in-FreezeWorkspace-clause-does c =
+    does_here c.args.image.now c.args.sessions.now c.args.moment c.freeze_call.result (call c.args.session.now (Some procedures.FreezeWorkspace) c.args.called.given.args.now) (call_with c.args.session.now (Some c.args.procedure) c.args.called.given.args.now (filter_view c.args.called.given.condition.now) c.args.called.empty)
+    (λ s. ap (λ (p : Procedure). call_with c.args.session.now (Some p) c.args.called.given.args.now (filter_view c.args.called.given.condition.now) c.args.called.empty s) c.in-FreezeWorkspace.is) c.freeze_call.ensures.does
+
+pub returns-in-UnfreezeWorkspace-clause-does : goal.returns-in-UnfreezeWorkspace-clause-does
+returns-in-UnfreezeWorkspace-clause-does c =
+    does_here c.args.image.now c.args.sessions.now c.args.moment c.unfreeze_call.result (call c.args.session.now (Some procedures.UnfreezeWorkspace) c.args.called.given.args.now) (call_with c.args.session.now (Some c.args.procedure) c.args.called.given.args.now (filter_view c.args.called.given.condition.now) c.args.called.empty)
+    (λ s. ap (λ (p : Procedure). call_with c.args.session.now (Some p) c.args.called.given.args.now (filter_view c.args.called.given.condition.now) c.args.called.empty s) c.in-UnfreezeWorkspace.is) c.unfreeze_call.ensures.does
+
 pub returns-in-BeginResolve-clause-does : goal.returns-in-BeginResolve-clause-does
 returns-in-BeginResolve-clause-does c =
     for_moment c.args.image.now c.args.sessions.now c.args.moment c.begin_call.result (call c.args.session.now (Some procedures.BeginResolve) c.args.called.given.args.now) (call_with c.args.session.now (Some c.args.procedure) c.args.called.given.args.now (filter_view c.args.called.given.condition.now) c.args.called.empty)
@@ -95,7 +105,7 @@ returns-in_default c = record {
       refused c.args.image.now c.args.sessions.now c.args.moment c.answered.result not_built (call_with c.args.session.now (Some c.args.procedure) c.args.called.given.args.now (filter_view c.args.called.given.condition.now) c.args.called.empty) c.answered.ensures.edits c.answered.ensures.seating
       (ap answer_view c.answered.ensures.answer ∙ c.not_built.ensures) c.requires.rules
       (λ s. other_call c.args.session.now c.args.procedure c.args.called.given.args.now (filter_view c.args.called.given.condition.now) c.args.called.empty s c.in_default.not-EnableVersioning c.in_default.not-CreateWorkspace c.in_default.not-CreateSavepoint c.in_default.not-GotoWorkspace c.in_default.not-GotoSavepoint c.in_default.not-SetConflictWorkspace c.in_default.not-SetValidTime
-      c.in_default.not-RollbackToSp c.in_default.not-RemoveWorkspace c.in_default.not-RefreshWorkspace c.in_default.not-MergeWorkspace c.in_default.not-BeginResolve c.in_default.not-ResolveConflicts
+      c.in_default.not-RollbackToSp c.in_default.not-RemoveWorkspace c.in_default.not-RefreshWorkspace c.in_default.not-MergeWorkspace c.in_default.not-FreezeWorkspace c.in_default.not-UnfreezeWorkspace c.in_default.not-BeginResolve c.in_default.not-ResolveConflicts
       c.in_default.not-CommitResolve c.in_default.not-RollbackResolve);
   idle = λ idle. (c.answered.ensures.edits, c.answered.ensures.seating);
   few = λ forks. forks_none c.answered.result c.answered.ensures.edits;
@@ -130,6 +140,12 @@ returns-in-RollbackToSp-clause-nets c = λ workspace named. absurd (none-some wo
 
 pub returns-in-RemoveWorkspace-clause-nets : goal.returns-in-RemoveWorkspace-clause-nets
 returns-in-RemoveWorkspace-clause-nets c = λ workspace named. absurd (none-some workspace (ap (λ (p : Procedure). nets_call (Some p) c.args.called.given.args.now) (sym c.in-RemoveWorkspace.is) ∙ named))
+
+pub returns-in-FreezeWorkspace-clause-nets : goal.returns-in-FreezeWorkspace-clause-nets
+returns-in-FreezeWorkspace-clause-nets c = λ workspace named. absurd (none-some workspace (ap (λ (p : Procedure). nets_call (Some p) c.args.called.given.args.now) (sym c.in-FreezeWorkspace.is) ∙ named))
+
+pub returns-in-UnfreezeWorkspace-clause-nets : goal.returns-in-UnfreezeWorkspace-clause-nets
+returns-in-UnfreezeWorkspace-clause-nets c = λ workspace named. absurd (none-some workspace (ap (λ (p : Procedure). nets_call (Some p) c.args.called.given.args.now) (sym c.in-UnfreezeWorkspace.is) ∙ named))
 
 pub returns-in-BeginResolve-clause-nets : goal.returns-in-BeginResolve-clause-nets
 returns-in-BeginResolve-clause-nets c = λ workspace named. absurd (none-some workspace (ap (λ (p : Procedure). nets_call (Some p) c.args.called.given.args.now) (sym c.in-BeginResolve.is) ∙ named))

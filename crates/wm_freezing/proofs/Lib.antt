@@ -1,0 +1,3 @@
+pub mod Faults
+pub mod Freezing
+pub mod Thawing

@@ -1,0 +1,4 @@
+//! Whom freezes bar.
+#![tactic(auto)]
+
+pub mod access;

@@ -1,0 +1,93 @@
+-- Plans: what a line is refused for, and what it makes and answers where nothing refuses it.
+use Rattle.std.specs.Prelude.{ℕ, ◌+◌, ◌==◌, nat_lt, Bool, false, if◌then◌else◌, List, [], ◌∷◌, ◌++◌, Option, None, Some, codes}
+use Rattle.std.specs.List.{find}
+use Rattle.std.specs.Option.{option_map_or}
+use Rattle.std.specs.Str.{bytes_eq}
+use Rattle.wm_base.specs.declared.refusal.Refusal.{Refusal}
+use Rattle.wm_outline.specs.Outline.{Outline, SpaceOutline}
+use Rattle.wm_print.specs.Texts.{Answer, Fine, Refused}
+use Rattle.wm_state.specs.Editing.{counter_limit, line_work}
+use Rattle.wm_state.specs.State.{State}
+use Rattle.wm_state.specs.declared.edit.Edit.{Edit}
+use Rattle.wm_model.specs.Seating.{Seating, Stay, planned}
+use Rattle.wm_model.specs.Step.Places.{least, place}
+use Rattle.wm_model.specs.Step.Refusing.{at_its_end, refusal_of, refused_if}
+
+-- faults in any order
+pub record Plan : Type 0 where
+  pub faults : List (Option Refusal)
+  pub edits : List Edit
+  pub seating : Seating
+  pub answer : Answer
+
+-- what comes of it
+pub record Outcome : Type 0 where
+  pub edits : List Edit
+  pub seating : Seating
+  pub answer : Answer
+
+abbrev pub refused_with : Refusal → Outcome
+refused_with refusal = record { edits = []; seating = Stay; answer = Refused refusal }
+
+abbrev pub done_so : Plan → Outcome
+done_so p = record { edits = p.edits; seating = p.seating; answer = p.answer }
+
+-- the refusal where there is one
+abbrev pub refused_or : Option Refusal → Outcome → Outcome
+refused_or None o = o
+refused_or (Some refusal) o = refused_with refusal
+
+-- the fault of the least place, and else what the plan does
+abbrev pub outcome : Plan → Outcome
+outcome p = refused_or (least p.faults) (done_so p)
+
+-- the state behind it, and the answer
+abbrev pub comes : Outcome → State → State × Answer
+comes o s = (planned s.moment s.moment o.edits o.seating s, o.answer)
+
+abbrev pub run : Plan → State → State × Answer
+run p s = comes (outcome p) s
+
+-- ---- what plans have in common
+
+-- a plan that is refused at once
+abbrev pub refusing : Answer → Plan
+refusing answer = record { faults = refusal_of answer ∷ []; edits = []; seating = Stay; answer = Fine }
+
+-- a plan with faults more
+abbrev pub also : List (Option Refusal) → Plan → Plan
+also faults p = record p { faults = faults ++ p.faults }
+
+-- the work is at its end
+abbrev pub is_spent : Outline → Bool
+is_spent o = nat_lt counter_limit (o.work + line_work)
+
+abbrev pub spent : Outline → Option Refusal
+spent o = refused_if (is_spent o) (at_its_end (codes "WORK"))
+
+abbrev pub space_named : List ℕ → Outline → Option SpaceOutline
+space_named name o = find (λ (x : SpaceOutline). bytes_eq name x.fields.name) o.spaces
+
+abbrev pub space_numbered : ℕ → Outline → Option SpaceOutline
+space_numbered n o = find (λ (x : SpaceOutline). x.number == n) o.spaces
+
+-- the plan for the workspace of a name
+abbrev pub for_named : Answer → (SpaceOutline → Plan) → Option SpaceOutline → Plan
+for_named lacks act None = refusing lacks
+for_named lacks act (Some x) = act x
+
+-- ---- a refusal that many lines share
+
+-- the answer is a refusal that is told before another one
+abbrev pub is_before : Answer → Refusal → Bool
+is_before answer r = option_map_or (λ (q : Refusal). nat_lt (place q) (place r)) (refusal_of answer) false
+
+-- what a line does where it is refused for this too
+abbrev pub barred : Option Refusal → State → State × Answer → State × Answer
+barred None s done = done
+barred (Some r) s done = if is_before done.1 r then done else (s, Refused r)
+
+-- and what comes of its plan
+abbrev pub barred_outcome : Option Refusal → Outcome → Outcome
+barred_outcome None o = o
+barred_outcome (Some r) o = if is_before o.answer r then o else refused_with r
