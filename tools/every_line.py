@@ -42,6 +42,25 @@ A: EXECUTE DBMS_WM.RemoveWorkspace('V')
 A: EXECUTE DBMS_WM.RefreshWorkspace('W')
 A: EXECUTE DBMS_WM.SetConflictWorkspace('W')
 A: SELECT * FROM BUD_CONF
+A: EXECUTE DBMS_WM.FreezeWorkspace('W', '1WRITER', 'ANN')
+B: UPDATE BUD SET AMT = 3
+A: EXECUTE DBMS_WM.FreezeWorkspace('W', 'READ_ONLY')
+B: EXECUTE DBMS_WM.UnfreezeWorkspace('W')
+B: EXECUTE DBMS_WM.UnfreezeWorkspace('W')
+A: EXECUTE DBMS_WM.FreezeWorkspace('W')
+A: EXECUTE DBMS_WM.FreezeWorkspace('W', '1WRITER_SESSION')
+B: EXECUTE DBMS_WM.MergeWorkspace('W')
+A: EXECUTE DBMS_WM.UnfreezeWorkspace('W')
+A: EXECUTE DBMS_WM.LockRows('W', 'BUD', 'ID = 1', 'S')
+A: SELECT * FROM BUD_LOCK
+A: UPDATE BUD SET AMT = 3 WHERE ID = 1
+B: EXECUTE DBMS_WM.UnlockRows('W', 'BUD')
+A: EXECUTE DBMS_WM.UnlockRows('W', 'BUD')
+B: EXECUTE DBMS_WM.SetLockingON('WE')
+B: UPDATE BUD SET NOTE = 'locked' WHERE ID = 2
+B: EXECUTE DBMS_WM.SetLockingOFF
+B: EXECUTE DBMS_WM.LockRows('W', 'BUD', 'ID = 2', 'WE')
+A: EXECUTE DBMS_WM.LockRows('W', 'BUD', 'AMT = 1', 'WE')
 A: EXECUTE DBMS_WM.CreateWorkspace('U')
 B: EXECUTE DBMS_WM.GotoWorkspace('U')
 B: DELETE FROM BUD WHERE ID = 2
@@ -102,21 +121,27 @@ A: DELETE FROM BUD WHERE ID = 1
 B: EXECUTE DBMS_WM.BeginResolve('W')
 B: EXECUTE DBMS_WM.ResolveConflicts('W', 'BUD', '', 'PARENT')
 B: EXECUTE DBMS_WM.SetConflictWorkspace('U')
+A: EXECUTE DBMS_WM.FreezeWorkspace('W', '1WRITER', 'ANN')
+A: EXECUTE DBMS_WM.LockRows('LIVE', 'EMP')
 A: SELECT NOPE FROM BUD
 A: MERGE
 DISCONNECT B
 """
 
-# Each workspace and savepoint is gone to, and all rows of both tables and of their views are listed. Nothing is changed.
+# Each workspace and savepoint is gone to, and all rows of both tables and of their views are listed; a line that is refused
+# tells whether W is frozen. Nothing is changed.
 READING = """
 CONNECT Z ZOE
 Z: EXECUTE DBMS_WM.SetValidTime(DATE '0001-01-01')
 Z: SELECT * FROM BUD
 Z: SELECT * FROM EMP
 Z: SELECT * FROM BUD_HIST
+Z: SELECT * FROM BUD_LOCK
+Z: SELECT * FROM EMP_LOCK
 Z: EXECUTE DBMS_WM.GotoSavepoint('ICP-4')
 Z: SELECT * FROM BUD
 Z: EXECUTE DBMS_WM.GotoWorkspace('W')
+Z: EXECUTE DBMS_WM.CommitResolve('W')
 Z: SELECT * FROM BUD
 Z: SELECT * FROM EMP
 Z: SELECT * FROM BUD_CONF

@@ -1,6 +1,8 @@
 """The state, and what each line answers, by the rules of the language alone."""
 from calls import Calls
+from freezes import Freezes
 from lists import Entry, entries_of, rows_of
+from locks import Locks
 from merges import Merges
 from parser import BadToken, Parser, VIEWS
 from queries import Queries
@@ -11,7 +13,7 @@ from trees import At, Call, Connect, Create, Delete, Disconnect, Insert, Select,
 from values import ALWAYS, Instant, printed, weight
 
 
-class Reference(Queries, Calls, Merges):
+class Reference(Queries, Calls, Freezes, Locks, Merges):
     """A store, its sessions, and what each line answers."""
 
     MOST_ROWS, MOST_SESSIONS, MOST_TABLES, MOST_WORKSPACES, MOST_SAVEPOINTS = 100_000, 256, 256, 1024, 4096
@@ -93,12 +95,16 @@ class Reference(Queries, Calls, Merges):
 
     def write(self, session, table, changes):
         """Entries of changes, each a key, a period, a row or None, and a kind; each has the next stamp."""
+        workspace, cells = self.workspaces[session.workspace], [(table.name, key, period) for key, period, _, _ in changes]
+        self.test_locks(workspace, session.user, cells)
         if self.stamps + len(changes) > self.limit:
             refuse("WM-070 change limit", self.limit)
         entries = [Entry(table.name, key, period, row, self.stamps + count, kind, self.moment, session.user)
                    for count, (key, period, row, kind) in enumerate(changes, 1)]
-        self.workspaces[session.workspace].append(entries)
+        workspace.append(entries)
         self.stamps += len(changes)
+        if session.locking:
+            self.lock(workspace, session.locking, session.user, cells)
         if changes:
             self.changed()
 
@@ -130,9 +136,9 @@ class Reference(Queries, Calls, Merges):
     def test_views(self, session, sources):
         views = [source for source in sources if isinstance(source, View)]
         for view in views:
-            if view.is_history and not view.table.has_history:
+            if view.kind == "HIST" and not view.table.has_history:
                 refuse("WM-018 no history", view.table.name)
-        if any(not view.is_history for view in views):
+        if any(view.kind == "CONF" for view in views):
             self.workspace(self.conflict_workspace(session))
 
     # CREATE TABLE
@@ -176,6 +182,12 @@ class Reference(Queries, Calls, Merges):
         if self.has_empty_period:
             refuse("WM-033 empty period")
 
+    def test_change(self, session):
+        """Refuses a change of rows where and as the session stands."""
+        self.at_latest(session)
+        self.test_periods()
+        self.test_frozen(session, session.workspace, "write")
+
     def test_lacking(self, scope, trees):
         if bad := [fault for tree in trees for fault in scope.lacking(tree)]:
             refuse("WM-017 not valid-time", first_of(bad))
@@ -200,8 +212,7 @@ class Reference(Queries, Calls, Merges):
             refuse("WM-013 type", first_of(bad))
         if "WM_VALID" in names and not table.has_periods:
             refuse("WM-017 not valid-time", table.name)
-        self.at_latest(session)
-        self.test_periods()
+        self.test_change(session)
         given = {name: scope.value(value, ()) for name, value in zip(names, tree.values)}
         row = tuple(given.get(name) for name in declared)
         self.test_rows(table, [row])
@@ -242,8 +253,7 @@ class Reference(Queries, Calls, Merges):
         if table.key in places:
             refuse("WM-062 key column", table.columns[table.key].name)
         self.test_lacking(scope, trees)
-        self.at_latest(session)
-        self.test_periods()
+        self.test_change(session)
         changes = []  # the old period, the new one and the new row
         for (period, values), row in zip(self.pieces(session, table), self.rows(session, table)):
             if scope.truth(tree.condition, row) is True:
@@ -281,8 +291,7 @@ class Reference(Queries, Calls, Merges):
         if bad := scope.bad_kinds(tree.condition):
             refuse("WM-013 type", first_of(bad))
         self.test_lacking(scope, [tree.condition])
-        self.at_latest(session)
-        self.test_periods()
+        self.test_change(session)
         gone = [(row[table.key], period.shared(self.window(session, table)), None, "D")
                 for (period, _), row in zip(self.pieces(session, table), self.rows(session, table)) if scope.truth(tree.condition, row) is True]
         self.write(session, table, gone)

@@ -18,6 +18,8 @@ class Writer(Words, Statements, Spoken):
         self.reference = Reference(self.limit)
         self.noise = 0.0  # how likely each choice within the line is a bad one
         self.branching = self.random.choice([1, 1, 1, 3])  # how often lines on workspaces and savepoints come
+        self.locking = self.random.choice([0.5, 0.5, 1, 4])  # how often rows are locked
+        self.freezing = self.random.choice([0.5, 0.5, 1, 4])  # how often a workspace is frozen
 
     def chance(self, likely):
         return self.random.random() < likely
@@ -76,6 +78,10 @@ class Writer(Words, Statements, Spoken):
             yield from self.levels()
         if self.chance(0.5):
             yield from self.one([self.torn, self.decided, self.decided])()
+        if self.chance(0.15 * self.locking):
+            yield from self.locked()
+        if self.chance(0.15 * self.freezing):
+            yield from self.frozen()
         if self.chance(0.4):
             yield self.spaced(self.set_valid_time().split(" "))
         if not part and self.chance(0.02):
@@ -116,8 +122,7 @@ class Writer(Words, Statements, Spoken):
 
     def above(self, name):
         """The name of the workspace above another."""
-        parent = self.reference.parent_of(self.reference.workspaces[name])
-        return next(other for other, its in self.reference.workspaces.items() if its is parent)
+        return self.reference.above(self.reference.workspaces[name])
 
     def clashing(self, name):
         """Both sides of a workspace change the same rows, or one of them is away."""
@@ -166,11 +171,45 @@ class Writer(Words, Statements, Spoken):
                 self.resolve: 16, self.clash: 8, self.rollback: 4, self.create_savepoint: 3, self.merge: 2, self.refresh: 1, self.remove: 0.3,
                 self.view: 2, self.disconnect: 0.5, self.connect: 0.3, self.set_valid_time: 1})().split(" "))
 
+    def locked(self):
+        """Rows of a workspace or of the one above are locked; then others change them, lock them and merge them."""
+        name, lines = self.child_name()
+        yield from lines
+        if name not in self.reference.workspaces:
+            return
+        yield from self.clashing(name)
+        yield from [b"CONNECT C BEN"] if self.chance(0.5) else []
+        for _ in range(self.one([6, 12, 24])):
+            is_locked = any(its.locks for its in self.reference.workspaces.values())
+            yield self.spaced(self.weighted({
+                self.lock_rows: 4 if is_locked else 10, self.unlock_rows: 1.5 if is_locked else 0.2, self.set_locking: 2, self.insert: 2,
+                self.update: 3, self.move: 2, self.delete: 1, self.clash: 5, self.merge: 4, self.resolve: 4, self.refresh: 1, self.rollback: 1.5,
+                self.create_savepoint: 1, self.goto_workspace: 2, self.set_valid_time: 2, self.remove: 0.5, self.disconnect: 0.3,
+                self.connect: 0.3, self.view: 1})().split(" "))
+
+    def frozen(self):
+        """A workspace or the one above is frozen; then what that bars is tried, and what it does not."""
+        name, lines = self.child_name()
+        yield from lines
+        if name not in self.reference.workspaces:
+            return
+        if self.chance(0.6):
+            yield from self.clashing(name)
+        yield from [b"B: EXEC DBMS_WM.GotoWorkspace(%s)" % printed(self.one([name, name, b"LIVE"])), b"CONNECT C BEN"]
+        for _ in range(self.one([6, 12, 24])):
+            is_frozen = any(map(self.reference.frozen, self.reference.workspaces))
+            yield self.spaced(self.weighted({
+                self.freeze: 1 if is_frozen else 12, self.unfreeze: 2 if is_frozen else 0.3, self.insert: 2, self.update: 2, self.move: 1,
+                self.delete: 1, self.clash: 3, self.create_savepoint: 2, self.create_workspace: 2, self.goto_workspace: 3, self.rollback: 2,
+                self.remove: 2, self.merge: 4, self.refresh: 3, self.resolve: 4, self.disconnect: 0.7, self.connect: 0.7,
+                self.goto_savepoint: 1, self.set_conflict: 0.5})().split(" "))
+
     def closing(self):
         """Lines that list what stands in each workspace, and some of what stands at each savepoint."""
         ready = [name for name, table in self.reference.tables.items() if table.is_versioned]
-        yield from ["CONNECT Z ZED", "Z: EXEC DBMS_WM.SetValidTime(DATE '0001-01-01')"]
+        yield from ["CONNECT Z ZED", "Z: EXEC DBMS_WM.SetValidTime(DATE '0001-01-01')", *(f"Z: SELECT * FROM {table}_LOCK" for table in ready)]
         for workspace, its in self.reference.workspaces.items():
+            yield f"Z: EXEC DBMS_WM.UnfreezeWorkspace({printed(workspace).decode()})"
             yield f"Z: EXEC DBMS_WM.GotoWorkspace({printed(workspace).decode()})"
             yield from (f"Z: SELECT * FROM {source}" for table in ready for source in (table, f"{table}_CONF", f"{table}_HIST"))
             for savepoint in its.savepoints if ready else []:
@@ -183,13 +222,16 @@ class Writer(Words, Statements, Spoken):
         self.noise = self.one([0, 0, 0, 0, 0, 0, 0.04, 0.1, 0.25])
         if self.chance(0.04):
             return self.one(ODD_LINES)
+        count = sum(1 for name in self.reference.workspaces if self.reference.frozen(name))
         words = self.weighted({
             self.insert: 26, self.update: 13, self.move: 11, self.delete: 5, self.select: 32, self.create: 3, self.enable: 3,
             self.create_workspace: 6 * self.branching, self.create_savepoint: 6 * self.branching, self.goto_workspace: 8 * self.branching,
             self.goto_savepoint: 7 * self.branching, self.rollback: 7 * self.branching, self.remove: 4 * self.branching,
             self.merge: 8 * self.branching, self.refresh: 5 * self.branching, self.clash: 9 * self.branching,
-            self.resolve: 8 * self.branching, self.view: 12, self.set_conflict: 2 + 2 * self.branching, self.connect: 3, self.disconnect: 1,
-            self.not_built: 1, self.set_valid_time: 10, self.at: 4, self.on_periods: 4, self.deep: 1, self.wide: 0.3, self.long: 0.3})().split(" ")
+            self.resolve: 8 * self.branching, self.view: 12, self.set_conflict: 2 + 2 * self.branching, self.freeze: 2 * self.freezing,
+            self.unfreeze: 0.3 + 8 * count, self.lock_rows: 4 * self.locking, self.unlock_rows: 2 * self.locking,
+            self.set_locking: 1.5 * self.locking, self.connect: 3, self.disconnect: 1, self.not_built: 1, self.set_valid_time: 10, self.at: 4,
+            self.on_periods: 4, self.deep: 1, self.wide: 0.3, self.long: 0.3})().split(" ")
         if self.chance(0.12):
             words = self.damaged(words)
         return self.spaced(words)

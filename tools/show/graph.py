@@ -1,5 +1,6 @@
 """The picture of the tree: a lane for each workspace, with its savepoints and changes, and a line from where it was born."""
 from colours import colour_of
+from overview import FREEZES, frozen_told
 from storefile.store import LIVE
 from svg import VALUE, element, label, name_label, picture, title, width_of
 
@@ -95,6 +96,9 @@ class Graph:
         parts += [self.node(point, level, colour) for point in self.nodes[space.number]]
         parts.append(element("circle", title("what is newest"), cx=self.end, cy=level, r=6, class_="newest",
                              style=f"fill:{colour}"))
+        if space.freeze:
+            parts.append(element("text", title(frozen_told(space)), FREEZES[space.freeze], x=self.end + 36, y=level - 15, class_="small frozen",
+                                 text_anchor="end"))
         return element("g", *parts)
 
     def head(self, space, level, colour):

@@ -44,14 +44,14 @@ td.changed, .changed { background: var(--mark); box-shadow: inset 0 0 0 1px #e9c
 .side { border: 1px solid var(--line); border-radius: 10px; padding: 10px 12px; }
 .side dl { display: grid; grid-template-columns: auto 1fr; gap: 3px 12px; margin: 8px 0 0; font-size: 14px; }
 .side dt { color: var(--soft); } .side dd { margin: 0; }
-.settled { margin: 0; padding: 0; list-style: none; display: grid; gap: 4px; font-size: 14px; }
+.listed { margin: 0; padding: 0; list-style: none; display: grid; gap: 4px; font-size: 14px; }
 .when { color: var(--soft); white-space: nowrap; font-variant-numeric: tabular-nums; }
 input { font: inherit; padding: 7px 12px; border: 1px solid var(--line); border-radius: 10px; background: var(--card); color: var(--ink);
   width: 100%; max-width: 360px; margin-bottom: 12px; }
 svg { display: block; height: auto; }
 svg text { font: 13px system-ui, "Segoe UI", "DejaVu Sans", sans-serif; fill: var(--ink); }
 svg .name { font-weight: 600; font-size: 13px; } svg .small { font-size: 11.5px; fill: var(--soft); }
-svg .small.alarm { fill: var(--alarm); font-weight: 600; }
+svg .small.alarm { fill: var(--alarm); font-weight: 600; } svg .small.frozen { fill: #0b93ad; font-weight: 600; }
 svg .day { font-size: 11.5px; fill: var(--soft); } svg .grid { stroke: var(--line); stroke-dasharray: 3 4; }
 svg .lane { stroke-width: 3; } svg .birth { fill: none; stroke-width: 3; } svg .halo { fill: none; stroke: var(--card); stroke-width: 9; }
 svg .implicit { fill: var(--card); stroke-width: 2.5; } svg .savepoint, svg .newest { stroke: var(--card); stroke-width: 2; }

@@ -7,6 +7,8 @@ from storefile.values import printed
 WORDS = {1: "inserted", 2: "updated", 3: "deleted"}
 TYPES = {1: "NUMBER", 2: "VARCHAR2({})", 3: "DATE"}
 FREEZES = ["", "NO_ACCESS", "READ_ONLY", "1WRITER", "WM_ONLY"]
+ONE_WRITER = 3
+LOCKS = ["", "E", "S", "WE", "VE"]
 
 
 def counted(number, word):
@@ -59,6 +61,11 @@ def own_told(store, space):
     return f"changes of its own on {counted(len(keys), 'key')}" if keys else "nothing of its own"
 
 
+def frozen_told(space):
+    """How a workspace is frozen, and for whom. What a session froze for itself is in no file."""
+    return f"frozen {FREEZES[space.freeze]}" + (f" for {space.writer}" if space.freeze == ONE_WRITER else "")
+
+
 def facts(store, space):
     """What a workspace's line says behind its name."""
     found = [counted(space.log_length, "change")]
@@ -68,7 +75,7 @@ def facts(store, space):
                  f"{counted(store.changes_since(space), 'new change')} in {store.spaces[space.parent].name}",
                  counted(len(conflicts), "conflict") if conflicts else "no conflict",
                  *([f"{counted(len(settled), 'key')} settled"] if settled else [])]
-    return found + ([f"frozen {FREEZES[space.freeze]}"] if space.freeze else [])
+    return found + ([frozen_told(space)] if space.freeze else [])
 
 
 def branch(store, space, indent=""):
@@ -151,5 +158,18 @@ def settled(store):
     return ["", "What was in conflict and is settled, until the parent changes it again", *told] if told else []
 
 
+def locked_told(store, lock):
+    """What is locked, in which mode and by whom."""
+    table = store.tables[lock.cells.table]
+    period = f" {lock.cells.period}" if table.is_valid else ""
+    return f"{table.name} {printed(lock.cells.key)}{period}, {LOCKS[lock.mode]} by {lock.user}"
+
+
+def locked(store):
+    """The locks of all workspaces, where there is any."""
+    told = [f"  {store.spaces[lock.space].name}: {locked_told(store, lock)}" for lock in store.locks]
+    return ["", "What is locked", *told] if told else []
+
+
 def overview(path, store, most):
-    return [*head(path, store), *tables(store), *workspaces(store), *log(store, most), *conflicts(store), *settled(store)]
+    return [*head(path, store), *tables(store), *workspaces(store), *locked(store), *log(store, most), *conflicts(store), *settled(store)]

@@ -1,10 +1,12 @@
-"""Random scripts that make workspaces, savepoints and rows over periods, refresh, merge, resolve, go back and remove, and are mostly accepted."""
+"""Random scripts that make workspaces, savepoints and rows over periods, refresh, merge, resolve, go back, remove and freeze, and are mostly
+accepted."""
 import random
 
 # Whether a table has valid time, and its history.
 TABLES = {"PLOT": (True, "VIEW_WO_OVERWRITE"), "TAX": (False, "NONE"), "DEED": (True, "NONE")}
 ENDS = ["DATE '2020-01-01'", "DATE '2020-03-01'", "TIMESTAMP '2020-05-01 12:00:00'", "DATE '2020-09-01'", "DATE '2021-01-01'",
         "DBMS_WM.UNTIL_CHANGED"]
+MODES = ["NO_ACCESS", "READ_ONLY", "1WRITER", "WM_ONLY", "1WRITER_SESSION"]
 # What a merge is asked for besides: a savepoint before it, and the removal of the workspace behind it.
 BESIDES = ["", "", "", ", TRUE", ", FALSE, TRUE", ", TRUE, TRUE"]
 
@@ -70,9 +72,19 @@ class Writer:
             return f"{session}: EXECUTE DBMS_WM.RollbackToSP('{workspace}', '{point}')"
         if pick < 0.91:
             return f"{session}: EXECUTE DBMS_WM.RemoveWorkspace('{workspace}')"
+        if pick < 0.92:
+            return self.lock_line(session)
         if pick < 0.95:
             return f"{session}: EXECUTE DBMS_WM.RefreshWorkspace('{workspace}')"
         return f"{session}: EXECUTE DBMS_WM.MergeWorkspace('{workspace}'{self.random.choice(BESIDES)})"
+
+    def lock_line(self, session):
+        """A line on locks, most of which bar nobody but the other user in one workspace."""
+        workspace, table = self.random.choice(self.workspaces), self.random.choice(list(TABLES))
+        mode = self.random.choice(["WE", "WE", "WE", "VE", "S", "E"])
+        return f"{session}: EXECUTE DBMS_WM." + self.random.choice([
+            f"LockRows('{workspace}', '{table}', 'ID = {self.random.randrange(6)}', '{mode}')", f"UnlockRows('{workspace}', '{table}')",
+            f"SetLockingON('{mode}')\n{session}: UPDATE {table} SET X = 0 WHERE ID < 2\n{session}: EXECUTE DBMS_WM.SetLockingOFF"])
 
     def resolve_lines(self, session):
         """A resolve of a workspace, with a decision on most tables. Now and then it stays open, or is given up."""
@@ -85,8 +97,14 @@ class Writer:
         word = self.random.choice(["Commit"] * 8 + ["Rollback"])
         return "\n".join(lines + [f"{session}: EXECUTE DBMS_WM.{word}Resolve('{workspace}')"] * (self.random.random() < 0.9))
 
+    def freeze_line(self):
+        """A line at the end, for what is frozen bars most others."""
+        workspace, mode = self.random.choice(self.workspaces), self.random.choice(MODES)
+        return f"{self.random.choice('AB')}: EXECUTE DBMS_WM.FreezeWorkspace('{workspace}', '{mode}', 'BEN')"
+
     def script(self, length):
         self.lines += [self.line() for _ in range(length)]
         # What is settled stands in the store until the next merge.
         self.lines += [self.resolve_lines("A") for _ in range(2 * (len(self.workspaces) > 1))]
+        self.lines += [self.freeze_line() for _ in range(self.random.choice([0, 1, 3]))]
         return "".join(line + "\n" for line in self.lines).encode()

@@ -112,6 +112,8 @@ class Reading(unittest.TestCase):
                 self.assertEqual(lengths_of(by_number[workspace.parent])[workspace.log_from], alike(workspace.base))
             self.look_at_marks(workspace, by_number.get(workspace.parent))
         self.look_at_resolves(reference)
+        self.look_at_freezes(reference)
+        self.look_at_locks(reference)
         for session in reference.sessions.values():
             self.assertIn(session.savepoint, [None, *reference.workspaces[session.workspace].savepoints])
 
@@ -125,6 +127,26 @@ class Reading(unittest.TestCase):
             for kept in marks_of(point.settled) if point.rebases == workspace.rebases else []:
                 mine = [mark for mark in marks if (mark.table, mark.key) == (kept.table, kept.key) and mark.position >= kept.position]
                 self.assertEqual(kept.period.beside([mark.period for mark in mine]), [])
+
+    def look_at_freezes(self, reference):
+        """What a session froze for itself is there, and is frozen in no other way. LIVE is in none of the modes that it does not take."""
+        held = [name for session in reference.sessions.values() for name in session.freezes]
+        self.assertEqual(len(held), len(set(held)))
+        for name in held:
+            self.assertIsNone(reference.workspaces[name].freeze)
+        self.assertIn(reference.frozen(b"LIVE"), (None, b"READ_ONLY", b"1WRITER"))
+        for name, workspace in reference.workspaces.items():
+            if workspace.freeze == b"NO_ACCESS":
+                self.assertNotIn(name, [session.workspace for session in reference.sessions.values()])
+
+    def look_at_locks(self, reference):
+        """No two locks of one user in one mode lie over each other in a workspace."""
+        for workspace in reference.workspaces.values():
+            for place, one in enumerate(workspace.locks):
+                self.assertLessEqual(one.place, workspace.place)
+                for other in workspace.locks[:place]:
+                    if (one.table, one.key, one.mode, one.user) == (other.table, other.key, other.mode, other.user):
+                        self.assertFalse(one.period.overlaps(other.period))
 
     def look_at_resolves(self, reference):
         """One session alone has a resolve of a workspace open. What it decided is in conflict until it commits, and later than what was settled."""
