@@ -2,7 +2,6 @@
 from calls import Calls
 from freezes import Freezes
 from lists import Entry, entries_of, rows_of
-from locks import Locks
 from merges import Merges
 from parser import BadToken, Parser, VIEWS
 from queries import Queries
@@ -13,7 +12,7 @@ from trees import At, Call, Connect, Create, Delete, Disconnect, Insert, Select,
 from values import ALWAYS, Instant, printed, weight
 
 
-class Reference(Queries, Calls, Freezes, Locks, Merges):
+class Reference(Queries, Calls, Freezes, Merges):
     """A store, its sessions, and what each line answers."""
 
     MOST_ROWS, MOST_SESSIONS, MOST_TABLES, MOST_WORKSPACES, MOST_SAVEPOINTS = 100_000, 256, 256, 1024, 4096
@@ -95,16 +94,12 @@ class Reference(Queries, Calls, Freezes, Locks, Merges):
 
     def write(self, session, table, changes):
         """Entries of changes, each a key, a period, a row or None, and a kind; each has the next stamp."""
-        workspace, cells = self.workspaces[session.workspace], [(table.name, key, period) for key, period, _, _ in changes]
-        self.test_locks(workspace, session.user, cells)
         if self.stamps + len(changes) > self.limit:
             refuse("WM-070 change limit", self.limit)
         entries = [Entry(table.name, key, period, row, self.stamps + count, kind, self.moment, session.user)
                    for count, (key, period, row, kind) in enumerate(changes, 1)]
-        workspace.append(entries)
+        self.workspaces[session.workspace].append(entries)
         self.stamps += len(changes)
-        if session.locking:
-            self.lock(workspace, session.locking, session.user, cells)
         if changes:
             self.changed()
 
@@ -136,9 +131,9 @@ class Reference(Queries, Calls, Freezes, Locks, Merges):
     def test_views(self, session, sources):
         views = [source for source in sources if isinstance(source, View)]
         for view in views:
-            if view.kind == "HIST" and not view.table.has_history:
+            if view.is_history and not view.table.has_history:
                 refuse("WM-018 no history", view.table.name)
-        if any(view.kind == "CONF" for view in views):
+        if any(not view.is_history for view in views):
             self.workspace(self.conflict_workspace(session))
 
     # CREATE TABLE

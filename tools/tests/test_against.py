@@ -113,7 +113,6 @@ class Reading(unittest.TestCase):
             self.look_at_marks(workspace, by_number.get(workspace.parent))
         self.look_at_resolves(reference)
         self.look_at_freezes(reference)
-        self.look_at_locks(reference)
         for session in reference.sessions.values():
             self.assertIn(session.savepoint, [None, *reference.workspaces[session.workspace].savepoints])
 
@@ -138,15 +137,6 @@ class Reading(unittest.TestCase):
         for name, workspace in reference.workspaces.items():
             if workspace.freeze == b"NO_ACCESS":
                 self.assertNotIn(name, [session.workspace for session in reference.sessions.values()])
-
-    def look_at_locks(self, reference):
-        """No two locks of one user in one mode lie over each other in a workspace."""
-        for workspace in reference.workspaces.values():
-            for place, one in enumerate(workspace.locks):
-                self.assertLessEqual(one.place, workspace.place)
-                for other in workspace.locks[:place]:
-                    if (one.table, one.key, one.mode, one.user) == (other.table, other.key, other.mode, other.user):
-                        self.assertFalse(one.period.overlaps(other.period))
 
     def look_at_resolves(self, reference):
         """One session alone has a resolve of a workspace open. What it decided is in conflict until it commits, and later than what was settled."""
