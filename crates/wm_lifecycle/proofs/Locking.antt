@@ -1,11 +1,9 @@
 -- What is put where locks are set.
-use Rattle.std.proofs.Common.{◌≡◌, ℕ, suc, ◌+◌, ◌-◌, ◌≤◌, ◌<◌, ◌^◌, ◌==◌, nat_le, nat_lt, true, false, ◌&&◌, List, [], ◌∷◌, ◌++◌, map, length, vec_len, Some, None, refl, sym, ap, subst, ◌∙◌, arith}
+use Rattle.std.proofs.Common.{◌≡◌, ℕ, suc, ◌+◌, ◌-◌, ◌≤◌, ◌<◌, ◌^◌, ◌==◌, nat_le, nat_lt, true, false, ◌&&◌, List, [], ◌∷◌, ◌++◌, map, length, Some, None, refl, sym, ap, subst, ◌∙◌, arith}
 use Rattle.std.proofs.lemmas.Bool.Decides.{nat_tests}
 use Rattle.std.proofs.lemmas.Bool.{and_parts}
 use Rattle.std.specs.List.{list_all}
 use Rattle.std.specs.Str.{bytes_eq}
-use Rattle.std.specs.declared.alloc.Global.{Global}
-use Rattle.std.specs.declared.vec.Vec.{Vec}
 use Rattle.wm_changes.proofs.Putting.{one_behind}
 use Rattle.wm_graph.specs.Parts.{Parts, parts_of, space_of}
 use Rattle.wm_graph.specs.Rules.{differ, is_placed, is_short, is_space, keep_rules}
@@ -63,10 +61,6 @@ length_made n place mode user making (x ∷ xs) = ap suc (length_made n place mo
 
 -- ---- numbers
 
--- how many they are
-pub counted_as : {A : Type 0} (v : Vec A Global) (k : ℕ) → k ≡ vec_len v → k ≡ length v.items
-counted_as v k is = omega (arith, is)
-
 -- some place comes next
 some_place : (p : Parts) (n : ℕ) (a : Space) → keep_rules p ≡ true → space_of p.spaces n ≡ Some a → nat_le 1 a.next_place ≡ true
 some_place p n a rules there =
@@ -93,24 +87,24 @@ makings_fit p m work count making rules can room is =
 
 -- ---- the draft
 
-pub drafts_locks : (rs : List Stored) (m work n : ℕ) (mode : LockMode) (user : List ℕ) (cells : Vec NewLock Global) (making place : ℕ) (c counted : Counters) (a : Space) (counters_id id : ℕ) (news : List Record) (none one changes : List Change) (first : Change)
-    → keep_rules (parts_of rs) ≡ true → CanWork (parts_of rs) m work → length cells.items ≤ work → CanLock (parts_of rs) n user cells.items → Ascend rs → (parts_of rs).counters ≡ c ∷ [] → record_at rs counters_id ≡ Some (records.Counters c)
-    → space_of (parts_of rs).spaces n ≡ Some a → ((i : ℕ) → id ≤ i → record_at rs i ≡ None) → place ≡ a.next_place - 1 → making ≡ lock_after (parts_of rs).locks → counted ≡ moved c m work → news ≡ map records.Lock (locks_made n place mode user making cells.items)
+pub drafts_locks : (rs : List Stored) (m work n : ℕ) (mode : LockMode) (user : List ℕ) (cells : List NewLock) (making place : ℕ) (c counted : Counters) (a : Space) (counters_id id : ℕ) (news : List Record) (none one changes : List Change) (first : Change)
+    → keep_rules (parts_of rs) ≡ true → CanWork (parts_of rs) m work → length cells ≤ work → CanLock (parts_of rs) n user cells → Ascend rs → (parts_of rs).counters ≡ c ∷ [] → record_at rs counters_id ≡ Some (records.Counters c)
+    → space_of (parts_of rs).spaces n ≡ Some a → ((i : ℕ) → id ≤ i → record_at rs i ≡ None) → place ≡ a.next_place - 1 → making ≡ lock_after (parts_of rs).locks → counted ≡ moved c m work → news ≡ map records.Lock (locks_made n place mode user making cells)
     → none ≡ [] → first ≡ put counters_id (records.Counters counted) → one ≡ none ++ first ∷ [] → changes ≡ one ++ put_all id news → DraftsBy work rs m (edits.Lock n mode user cells ∷ []) changes
 drafts_locks rs m work n mode user cells making place c counted a counters_id id news none one changes first rules can_work room can sorted has_one counters found above last next count made empty put_first pushed is =
     subst (λ (cs : List Change). DraftsBy work rs m (edits.Lock n mode user cells ∷ []) cs) (sym batch)
     (subst So number
-    (drafts_lock rs m work a mode user cells place c counters_id id rules can_work room (subst (λ k. CanLock (parts_of rs) k user cells.items) (sym number) can) (subst (λ k. space_of (parts_of rs).spaces k ≡ Some a) (sym number) found)
+    (drafts_lock rs m work a mode user cells place c counters_id id rules can_work room (subst (λ k. CanLock (parts_of rs) k user cells) (sym number) can) (subst (λ k. space_of (parts_of rs).spaces k ≡ Some a) (sym number) found)
     (behind a.next_place place (placed (parts_of rs) n a rules found) last) (record { sorted = sorted; counters = counters; one = has_one; under = under_next id rs above })))
   where
     number : a.number ≡ n
     number = space_number (parts_of rs) n a found
 
     So : ℕ → Type 0
-    So k = DraftsBy work rs m (edits.Lock k mode user cells ∷ []) (lock_batch counters_id (moved c m work) id (locks_made k place mode user (lock_after (parts_of rs).locks) cells.items))
+    So k = DraftsBy work rs m (edits.Lock k mode user cells ∷ []) (lock_batch counters_id (moved c m work) id (locks_made k place mode user (lock_after (parts_of rs).locks) cells))
 
     behind : (k j : ℕ) → 1 ≤ k → j ≡ k - 1 → k ≡ j + 1
     behind k j some e = omega (arith, some, e)
 
-    batch : changes ≡ lock_batch counters_id (moved c m work) id (locks_made n place mode user (lock_after (parts_of rs).locks) cells.items)
+    batch : changes ≡ lock_batch counters_id (moved c m work) id (locks_made n place mode user (lock_after (parts_of rs).locks) cells)
     batch = rw (is, pushed, empty, put_first, count, made, next) refl

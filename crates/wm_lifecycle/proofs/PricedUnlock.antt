@@ -2,8 +2,6 @@
 use Rattle.std.proofs.Common.{◌≡◌, ℕ, ◌==◌, Bool, true, false, not, List, [], ◌∷◌, ◌++◌, map, Option, Some, None, is_some, refl, sym, subst, ◌∙◌}
 use Rattle.std.proofs.lemmas.Bool.{and_from, eq-eqb, or_left, or_right, true≢false}
 use Rattle.std.specs.List.{list_all, list_any}
-use Rattle.std.specs.declared.alloc.Global.{Global}
-use Rattle.std.specs.declared.vec.Vec.{Vec}
 use Rattle.wm_changes.proofs.DroppingAll.{there-with}
 use Rattle.wm_graph.specs.Parts.{parts_of}
 use Rattle.wm_graph.specs.Rules.{keep_rules}
@@ -44,21 +42,21 @@ made_so makings (records.Lock x) goes = sym (not_not (list_any (λ making. makin
     not_not false = refl
 made_so makings _ goes = absurd (true≢false (sym goes))
 
-pub unlock_costs : (rs : List Stored) (makings : Vec ℕ Global) (c counted : Counters) (counters_id : ℕ) (dropped slice : List ℕ) (none one changes : List Change) (first : Change) → keep_rules (parts_of rs) ≡ true → Ascend rs
-    → record_at rs counters_id ≡ Some (records.Counters c) → ((id : ℕ) → is_dropped dropped id ≡ list_any (λ making. is_dropped (ids_with (is_sought (LockAt making)) rs) id) makings.items) → ids_differ dropped ≡ true → slice ≡ dropped
+pub unlock_costs : (rs : List Stored) (makings : List ℕ) (c counted : Counters) (counters_id : ℕ) (dropped slice : List ℕ) (none one changes : List Change) (first : Change) → keep_rules (parts_of rs) ≡ true → Ascend rs
+    → record_at rs counters_id ≡ Some (records.Counters c) → ((id : ℕ) → is_dropped dropped id ≡ list_any (λ making. is_dropped (ids_with (is_sought (LockAt making)) rs) id) makings) → ids_differ dropped ≡ true → slice ≡ dropped
     → none ≡ [] → first ≡ put counters_id (records.Counters counted) → one ≡ none ++ first ∷ [] → changes ≡ one ++ map drop_one slice → Costs rs (edits.Unlock makings) (applied changes rs)
 unlock_costs rs makings c counted counters_id dropped slice none one changes first rules sorted counters told differ same empty put_first pushed is =
     subst (λ (cs : List Change). Costs rs (edits.Unlock makings) (applied cs rs)) (sym batch)
-    (unlock_beside rs counters_id c counted makings.items dropped (keeps_locks (stays_locked makings.items)) counters rules (made_so makings.items) go differ (each_there rs dropped there))
+    (unlock_beside rs counters_id c counted makings dropped (keeps_locks (stays_locked makings)) counters rules (made_so makings) go differ (each_there rs dropped there))
   where
-    go : AreDropped (keeps_locks (stays_locked makings.items)) dropped rs
-    go id r found = told id ∙ any_told rs sorted id r found makings.items ∙ goes_locked makings.items r
+    go : AreDropped (keeps_locks (stays_locked makings)) dropped rs
+    go id r found = told id ∙ any_told rs sorted id r found makings ∙ goes_locked makings r
 
     there : (id : ℕ) → is_dropped dropped id ≡ true → is_some (record_at rs id) ≡ true
     there id goes = by_record (record_at rs id) refl
       where
         by_record : (o : Option Record) → record_at rs id ≡ o → is_some o ≡ true
-        by_record None is_none = absurd (true≢false (sym goes ∙ told id ∙ none_told rs id is_none makings.items))
+        by_record None is_none = absurd (true≢false (sym goes ∙ told id ∙ none_told rs id is_none makings))
         by_record (Some r) found = refl
 
     batch : changes ≡ put counters_id (records.Counters counted) ∷ map drop_one dropped

@@ -7,10 +7,8 @@ use Rattle.std.specs.BTreeSet.{insert_key}
 use Rattle.std.specs.List.{AllByRecursion, list_any}
 use Rattle.std.specs.List.Sorted.{IsStrictlySortedBy}
 use Rattle.std.specs.Ordering.{match_ordering, nat_cmp}
-use Rattle.std.specs.declared.alloc.Global.{Global}
 use Rattle.std.specs.declared.cmp.Ordering.{Ordering}
 use Rattle.std.specs.declared.cmp.Ordering.TheVariants.{Less, Equal, Greater}
-use Rattle.std.specs.declared.vec.Vec.{Vec}
 use Rattle.wm_changes.proofs.Dropping.{told-with}
 use Rattle.wm_graph.specs.Parts.{parts_of}
 use Rattle.wm_graph.specs.Rules.{keep_rules}
@@ -135,15 +133,15 @@ under_over (s ∷ ss) = (first s.id (over ss), raised (over ss) (max (s.id + 1) 
 
 -- ---- the draft
 
-pub drafts_unlocks : (rs : List Stored) (m work : ℕ) (makings : Vec ℕ Global) (c counted : Counters) (counters_id : ℕ) (dropped slice : List ℕ) (none one changes : List Change) (first : Change) → keep_rules (parts_of rs) ≡ true → CanWork (parts_of rs) m work → Ascend rs
-    → (parts_of rs).counters ≡ c ∷ [] → record_at rs counters_id ≡ Some (records.Counters c) → ((id : ℕ) → is_dropped dropped id ≡ list_any (λ making. is_dropped (ids_with (is_sought (LockAt making)) rs) id) makings.items) → ids_differ dropped ≡ true → slice ≡ dropped
+pub drafts_unlocks : (rs : List Stored) (m work : ℕ) (makings : List ℕ) (c counted : Counters) (counters_id : ℕ) (dropped slice : List ℕ) (none one changes : List Change) (first : Change) → keep_rules (parts_of rs) ≡ true → CanWork (parts_of rs) m work → Ascend rs
+    → (parts_of rs).counters ≡ c ∷ [] → record_at rs counters_id ≡ Some (records.Counters c) → ((id : ℕ) → is_dropped dropped id ≡ list_any (λ making. is_dropped (ids_with (is_sought (LockAt making)) rs) id) makings) → ids_differ dropped ≡ true → slice ≡ dropped
     → counted ≡ moved c m work → none ≡ [] → first ≡ put counters_id (records.Counters counted) → one ≡ none ++ first ∷ [] → changes ≡ one ++ map drop_one slice → DraftsBy work rs m (edits.Unlock makings ∷ []) changes
 drafts_unlocks rs m work makings c counted counters_id dropped slice none one changes first rules can_work sorted has_one counters told differ same count empty put_first pushed is =
     subst (λ (cs : List Change). DraftsBy work rs m (edits.Unlock makings ∷ []) cs) (sym batch)
     (drafts_unlock rs m work makings dropped c counters_id (over rs) rules can_work go differ (record { sorted = sorted; counters = counters; one = has_one; under = under_over rs }))
   where
-    go : AreDropped (keeps_locks (stays_locked makings.items)) dropped rs
-    go id r found = told id ∙ any_told rs sorted id r found makings.items ∙ goes_locked makings.items r
+    go : AreDropped (keeps_locks (stays_locked makings)) dropped rs
+    go id r found = told id ∙ any_told rs sorted id r found makings ∙ goes_locked makings r
 
     batch : changes ≡ unlock_batch counters_id (moved c m work) dropped
     batch = rw (is, pushed, empty, put_first, count, same) refl

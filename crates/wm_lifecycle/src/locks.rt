@@ -22,7 +22,7 @@ use wm_changes::changes::{drop_all, put, put_all};
 use wm_changes::counts::{ids_from, moved};
 use wm_image::Image;
 use wm_spec::record::{Boxed, CellRange, Changes, Lock, LockMode, Record};
-use wm_state::edit::NewLock;
+use wm_state::edit::{Cells, Makings, NewLock};
 
 /// Locks that a user sets in a workspace, one for each of the cells.
 #[derive(Drop)]
@@ -30,7 +30,7 @@ pub struct NewLocks {
     pub space: u32,
     pub mode: LockMode,
     pub user: Name,
-    pub cells: Vec<NewLock>,
+    pub cells: Cells,
 }
 
 /// The lock on cells that a user sets at a place of a workspace.
@@ -69,8 +69,8 @@ fn locks_made(
     making: u64,
     locks: NewLocks,
 ) -> Result<Vec<Record>, Memory>
-    requires { making + length locks.cells.items < 2 ^ 64 }
-    ensures { IfOk result (λ news. news.items ≡ map records.Lock (locks_made locks.space place locks.mode locks.user making locks.cells.items)) }
+    requires { making + length locks.cells < 2 ^ 64 }
+    ensures { IfOk result (λ news. news.items ≡ map records.Lock (locks_made locks.space place locks.mode locks.user making locks.cells)) }
 {
     let NewLocks {
         space,
@@ -80,7 +80,7 @@ fn locks_made(
     } = locks;
     let mut making = making;
     let mut news = Vec::new(alloc);
-    for one in cells {
+    for one in cells.into_vec() {
         let lock = lock_made(alloc, space, place, mode, &user, making, one)?;
         news.push(Record::Lock(Boxed::new(alloc, lock)?))?;
         making += 1;
@@ -98,8 +98,8 @@ pub fn lock(
 ) -> Result<Changes, DraftFault>
     requires rules { keep_rules (parts_of image.now) ≡ true }
     requires work { CanWork (parts_of image.now) moment work }
-    requires room { length locks.cells.items ≤ work }
-    requires can { CanLock (parts_of image.now) locks.space locks.user locks.cells.items }
+    requires room { length locks.cells ≤ work }
+    requires can { CanLock (parts_of image.now) locks.space locks.user locks.cells }
     ensures drafts { IfOk result (DraftsBy work image.now moment (edits.Lock locks.space locks.mode locks.user locks.cells ∷ [])) }
     ensures full { IfErr result (λ fault. fault ≡ DraftFault.Ids → HasGreatId image.now) }
 {
@@ -163,7 +163,7 @@ pub fn unlock(
     image: &Image,
     moment: u64,
     work: u64,
-    makings: Vec<u64>,
+    makings: Makings,
 ) -> Result<Changes, Memory>
     requires rules { keep_rules (parts_of image.now) ≡ true }
     requires work { CanWork (parts_of image.now) moment work }

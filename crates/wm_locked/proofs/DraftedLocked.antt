@@ -75,22 +75,22 @@ kept_locks n place mode user making (y ∷ ys) all =
     let h = and_parts (list_all can_keep y.key) (list_all (λ (x : NewLock). list_all can_keep x.key) ys) all in and_from (list_all can_keep y.key) _ h.0 (kept_locks n place mode user (making + 1) ys h.1)
 
 -- the batch makes of the records what the edit makes of each state; there is as much work as there are locks
-pub drafts_lock : (rs : List Stored) (m work : ℕ) (a : Space) (mode : LockMode) (user : List ℕ) (cells : Vec NewLock Global) (place : ℕ) (c : Counters) (counters_id id : ℕ) → keep_rules (parts_of rs) ≡ true → CanWork (parts_of rs) m work
-    → length cells.items ≤ work → CanLock (parts_of rs) a.number user cells.items → space_of (parts_of rs).spaces a.number ≡ Some a → a.next_place ≡ place + 1 → CountersAt rs counters_id id c
-    → DraftsBy work rs m (edits.Lock a.number mode user cells ∷ []) (lock_batch counters_id (moved c m work) id (locks_made a.number place mode user (lock_after (parts_of rs).locks) cells.items))
+pub drafts_lock : (rs : List Stored) (m work : ℕ) (a : Space) (mode : LockMode) (user : List ℕ) (cells : List NewLock) (place : ℕ) (c : Counters) (counters_id id : ℕ) → keep_rules (parts_of rs) ≡ true → CanWork (parts_of rs) m work
+    → length cells ≤ work → CanLock (parts_of rs) a.number user cells → space_of (parts_of rs).spaces a.number ≡ Some a → a.next_place ≡ place + 1 → CountersAt rs counters_id id c
+    → DraftsBy work rs m (edits.Lock a.number mode user cells ∷ []) (lock_batch counters_id (moved c m work) id (locks_made a.number place mode user (lock_after (parts_of rs).locks) cells))
 drafts_lock rs m work a mode user cells place c counters_id id rules can_work room can there last at = record {
   keeps = keeps;
   once = once;
   stands = λ s st.
       subst (λ q. Stands q (after s)) (sym parts)
       (Stands-relocked p d (p.locks ++ made) s (after s) st refl refl
-      (subst (λ k. LocksStand-of k s) place_is (LocksStand-made p d s (after s) a.number a mode user cells.items st.spaces st.locks there refl))
-      (counts_moved s (locked_in a.number mode user cells.items s) m work c refl refl (counts_as p s c st at.one) _ refl) rules_then);
+      (subst (λ k. LocksStand-of k s) place_is (LocksStand-made p d s (after s) a.number a mode user cells st.spaces st.locks there refl))
+      (counts_moved s (locked_in a.number mode user cells s) m work c refl refl (counts_as p s c st at.one) _ refl) rules_then);
   fields = λ s st.
       subst (λ q. FieldsStand q (after s)) (sym parts)
-      (FieldsStand-relocked p d (p.locks ++ made) s (after s) st refl refl (counts_moved s (locked_in a.number mode user cells.items s) m work c refl refl (counts_in p s c st.counters at.one) _ refl));
+      (FieldsStand-relocked p d (p.locks ++ made) s (after s) st refl refl (counts_moved s (locked_in a.number mode user cells s) m work c refl refl (counts_in p s c st.counters at.one) _ refl));
   rows = rows_stay rs batch rows_away;
-  kept = kept_put id (map records.Lock made) (kept_locks a.number place mode user (lock_after p.locks) cells.items can.kept);
+  kept = kept_put id (map records.Lock made) (kept_locks a.number place mode user (lock_after p.locks) cells can.kept);
   counted = λ some. counted_put rs work counters_id c d batch at.sorted at.one once (first_change counters_id _ _) keeps refl;
   nothing = some_edit (edits.Lock a.number mode user cells) [] batch;
   few = λ forks. absurd (true≢false (sym forks));
@@ -105,7 +105,7 @@ drafts_lock rs m work a mode user cells place c counters_id id rules can_work ro
     d = moved c m work
 
     made : List Lock
-    made = locks_made a.number place mode user (lock_after p.locks) cells.items
+    made = locks_made a.number place mode user (lock_after p.locks) cells
 
     batch : List Change
     batch = lock_batch counters_id d id made
@@ -114,7 +114,7 @@ drafts_lock rs m work a mode user cells place c counters_id id rules can_work ro
     after s = drafted_by work m (edits.Lock a.number mode user cells ∷ []) s
 
     LocksStand-of : ℕ → Durable → Type 0
-    LocksStand-of k s = LocksStand (relocked p d (p.locks ++ locks_made a.number k mode user (lock_after p.locks) cells.items)) (after s)
+    LocksStand-of k s = LocksStand (relocked p d (p.locks ++ locks_made a.number k mode user (lock_after p.locks) cells)) (after s)
 
     place_is : a.next_place - 1 ≡ place
     place_is = behind a.next_place place last
@@ -132,7 +132,7 @@ drafts_lock rs m work a mode user cells place c counters_id id rules can_work ro
         below next k e = grind (arith, e)
 
     rules_then : keep_rules (relocked p d (p.locks ++ made)) ≡ true
-    rules_then = keep-locked p c d a.number place mode user cells.items rules (may_count p m work (length cells.items) c rules can_work at.one room) can.short given can.cells
+    rules_then = keep-locked p c d a.number place mode user cells rules (may_count p m work (length cells) c rules can_work at.one room) can.short given can.cells
 
     parts : parts_of (applied batch rs) ≡ relocked p d (p.locks ++ made)
     parts = parts-lock rs counters_id id c d made at
@@ -149,8 +149,8 @@ drafts_lock rs m work a mode user cells place c counters_id id rules can_work ro
 -- ---- locks go
 
 -- the batch makes of the records what the edit makes of each state
-pub drafts_unlock : (rs : List Stored) (m work : ℕ) (makings : Vec ℕ Global) (ids : List ℕ) (c : Counters) (counters_id id : ℕ) → keep_rules (parts_of rs) ≡ true → CanWork (parts_of rs) m work
-    → AreDropped (keeps_locks (stays_locked makings.items)) ids rs → ids_differ ids ≡ true → CountersAt rs counters_id id c
+pub drafts_unlock : (rs : List Stored) (m work : ℕ) (makings : List ℕ) (ids : List ℕ) (c : Counters) (counters_id id : ℕ) → keep_rules (parts_of rs) ≡ true → CanWork (parts_of rs) m work
+    → AreDropped (keeps_locks (stays_locked makings)) ids rs → ids_differ ids ≡ true → CountersAt rs counters_id id c
     → DraftsBy work rs m (edits.Unlock makings ∷ []) (unlock_batch counters_id (moved c m work) ids)
 drafts_unlock rs m work makings ids c counters_id id rules can_work are apart at = record {
   keeps = keeps;
@@ -158,10 +158,10 @@ drafts_unlock rs m work makings ids c counters_id id rules can_work are apart at
   stands = λ s st.
       subst (λ q. Stands q (after s)) (sym parts)
       (Stands-relocked p d (filter stays p.locks) s (after s) st refl refl (LocksStand-filter p d s (after s) stays st.locks refl)
-      (counts_moved s (unlocked makings.items s) m work c refl refl (counts_as p s c st at.one) _ refl) rules_then);
+      (counts_moved s (unlocked makings s) m work c refl refl (counts_as p s c st at.one) _ refl) rules_then);
   fields = λ s st.
       subst (λ q. FieldsStand q (after s)) (sym parts)
-      (FieldsStand-relocked p d (filter stays p.locks) s (after s) st refl refl (counts_moved s (unlocked makings.items s) m work c refl refl (counts_in p s c st.counters at.one) _ refl));
+      (FieldsStand-relocked p d (filter stays p.locks) s (after s) st refl refl (counts_moved s (unlocked makings s) m work c refl refl (counts_in p s c st.counters at.one) _ refl));
   rows = rows_stay rs batch rows_away;
   kept = ap (list_all is_kept_change) (sym (no_more ids)) ∙ kept_dropped ids [] refl;
   counted = λ some. counted_put rs work counters_id c d batch at.sorted at.one once (first_change counters_id _ _) keeps refl;
@@ -178,7 +178,7 @@ drafts_unlock rs m work makings ids c counters_id id rules can_work are apart at
     d = moved c m work
 
     stays : Lock → Bool
-    stays = stays_locked makings.items
+    stays = stays_locked makings
 
     batch : List Change
     batch = unlock_batch counters_id d ids

@@ -279,7 +279,7 @@ CanEdit p m (edits.Replay n entries) = CanReplay p n (map entry_of entries.items
 CanEdit p m (edits.Gain n entries) = CanGain p n (map entry_of entries.items)
 CanEdit p m (edits.Rebase n emptied) = CanRebase p n emptied
 CanEdit p m (edits.Settle n marks) = CanSettle p n marks.items
-CanEdit p m (edits.Lock n mode user cells) = CanLock p n user cells.items
+CanEdit p m (edits.Lock n mode user cells) = CanLock p n user cells
 CanEdit p m (edits.Unlock makings) = Unit {0}
 CanEdit p m (edits.Freeze n mode writer) = CanFreeze p n writer
 

@@ -307,8 +307,8 @@ edited m (edits.Replay n entries) s = replayed_in n (map entry_of entries.items)
 edited m (edits.Gain n entries) s = gained_in n (map entry_of entries.items) s
 edited m (edits.Rebase n emptied) s = rebased_so n emptied s
 edited m (edits.Settle n marks) s = settled_in n marks.items s
-edited m (edits.Lock n mode user cells) s = locked_in n mode user cells.items s
-edited m (edits.Unlock makings) s = unlocked makings.items s
+edited m (edits.Lock n mode user cells) s = locked_in n mode user cells s
+edited m (edits.Unlock makings) s = unlocked makings s
 edited m (edits.Freeze n mode writer) s = frozen_in n mode writer s
 
 -- and what edits make of it in their order
@@ -323,7 +323,7 @@ drafted_by work m (e ∷ es) s = record (all_edited m (e ∷ es) s) { last_momen
 
 -- how many locks an edit makes
 abbrev pub locks_by : Edit → ℕ
-locks_by (edits.Lock n mode user cells) = length cells.items
+locks_by (edits.Lock n mode user cells) = length cells
 locks_by e = 0
 
 -- and how many edits make

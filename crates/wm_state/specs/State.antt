@@ -8,6 +8,7 @@ use Rattle.wm_net.specs.Conflicts.{Settled}
 use Rattle.wm_net.specs.Listed.{Stretch}
 use Rattle.wm_spec.specs.Lists.{Entry, Told}
 use Rattle.wm_spec.specs.declared.record.lock.Lock.{Lock}
+use Rattle.wm_spec.specs.declared.record.lock.LockMode.{LockMode}
 use Rattle.wm_spec.specs.declared.record.space.FreezeMode.{FreezeMode}
 use Rattle.wm_spec.specs.declared.record.space.FreezeMode.TheVariants.{Free}
 use Rattle.wm_spec.specs.declared.record.table.Table.{Table}
@@ -83,7 +84,8 @@ pub record Resolve : Type 0 where
 
 -- space: the number of its workspace; period: the one that SetValidTime set for it, in which it sees rows and changes them; conflict:
 -- the name of the workspace whose conflicts it looks at, which SetConflictWorkspace set for it; resolve: what BeginResolve opened;
--- freezes: the numbers of the workspaces that it froze for itself alone
+-- freezes: the numbers of the workspaces that it froze for itself alone; locking: the mode in which its changes lock what they change,
+-- where they do
 pub record Session : Type 0 where
   pub name : List ℕ
   pub user : List ℕ
@@ -93,6 +95,7 @@ pub record Session : Type 0 where
   pub conflict : Option (List ℕ)
   pub resolve : Option Resolve
   pub freezes : List ℕ
+  pub locking : Option LockMode
 
 -- the part of the state that a store keeps: tables in the order of their making; workspaces by number; next_stamp: the stamp that
 -- the next change gets; limit: the greatest stamp that a change may get; last_moment: that of the last line that changed something

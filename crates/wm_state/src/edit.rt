@@ -1,8 +1,11 @@
 //! What a line makes of the state: its edits.
+ghost use Rattle.std.specs.Prelude.{◌≡◌, length};
+
+use std::marker::Model;
 use wm_base::{Key, Kind, Name, Period, Values};
 use wm_spec::record::{FreezeMode, LockMode, Table};
 
-/// What a line that makes edits adds to the work of a store.
+/// What a line that makes edits adds to the work of a store, but for the locks that it makes.
 pub const LINE_WORK: u64 = 4_096;
 
 /// What is written for a key over a period, by whom and when.
@@ -37,6 +40,69 @@ pub struct NewLock {
     pub table: u16,
     pub key: Key,
     pub period: Period,
+}
+
+/// Cells that are locked, a lock for each.
+#[derive(Drop)]
+pub struct Cells {
+    list: Vec<NewLock>,
+}
+
+impl Model for Cells {
+    ghost use Rattle.std.specs.Prelude.{List};
+    ghost use Rattle.wm_state.specs.declared.edit.NewLock.{NewLock as OneLock};
+
+    ghost Value = { List OneLock };
+
+    ghost view = { λ s. s.list.items };
+}
+
+impl Cells {
+    pub fn from_vec(list: Vec<NewLock>) -> Cells
+        ensures { result ≡ list.items }
+    {
+        Cells { list }
+    }
+
+    pub fn into_vec(self) -> Vec<NewLock>
+        ensures { result.items ≡ self }
+    {
+        self.list
+    }
+
+    pub fn len(&self) -> usize
+        ensures { result ≡ length self.now }
+    {
+        self.list.len()
+    }
+}
+
+/// Locks by their makings.
+#[derive(Drop)]
+pub struct Makings {
+    list: Vec<u64>,
+}
+
+impl Model for Makings {
+    ghost use Rattle.std.specs.Prelude.{ℕ, List};
+
+    ghost Value = { List ℕ };
+
+    ghost view = { λ s. s.list.items };
+}
+
+impl Makings {
+    pub fn from_vec(list: Vec<u64>) -> Makings
+        ensures { result ≡ list.items }
+    {
+        Makings { list }
+    }
+
+    pub fn as_slice(&self) -> &[u64]
+        ensures { result.now ≡ self.now }
+    {
+        self.list.as_slice()
+    }
 }
 
 /// One change of the state.
@@ -106,11 +172,11 @@ pub enum Edit {
         space: u32,
         mode: LockMode,
         user: Name,
-        cells: Vec<NewLock>,
+        cells: Cells,
     },
     /// The locks of these makings go.
     Unlock {
-        makings: Vec<u64>,
+        makings: Makings,
     },
     /// A workspace is frozen so, with the one who may write then, or is free again.
     Freeze {

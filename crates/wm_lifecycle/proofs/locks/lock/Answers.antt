@@ -1,7 +1,7 @@
 use Rattle.std.proofs.Common.{◌≡◌, ◌<◌, ◌+◌, ◌-◌, ◌^◌, ℕ, length, Some, refl, sym, ap, subst, ◌∙◌}
 use Rattle.wm_changes.proofs.Placed.{counters_at, looked_up}
 use Rattle.wm_graph.specs.Parts.{parts_of, space_of}
-use Rattle.wm_lifecycle.proofs.Locking.{counted_as, drafts_locks, length_made, makings_fit, placed}
+use Rattle.wm_lifecycle.proofs.Locking.{drafts_locks, length_made, makings_fit, placed}
 use Rattle.wm_spec.specs.Records.{record_at}
 use Rattle.wm_lifecycle.proofs.locks.lock.Goals as goal
 
@@ -13,15 +13,15 @@ overflow_sub-place c =
 
 pub locks_made-requires : goal.locks_made-requires
 locks_made-requires c =
-    makings_fit (parts_of c.args.image.now) c.args.moment c.args.work (length c.args.locks.cells.items) c.lock_making-making.result c.requires.rules c.requires.work c.requires.room c.lock_making-making.ensures
+    makings_fit (parts_of c.args.image.now) c.args.moment c.args.work (length c.args.locks.cells) c.lock_making-making.result c.requires.rules c.requires.work c.requires.room c.lock_making-making.ensures
 
 pub put_all-requires : goal.put_all-requires
 put_all-requires c =
     subst (λ (n : ℕ). c.in_ok-id.id + n < 2 ^ 64)
     (sym
     (ap length c.in_ok-news.ensures
-    ∙ length_made c.args.locks.space (c.unwrap-found.result.now.next_place - 1) c.args.locks.mode c.args.locks.user c.lock_making-making.result c.args.locks.cells.items))
-    (subst (λ (n : ℕ). c.in_ok-id.id + n < 2 ^ 64) (counted_as c.args.locks.cells c.len.result c.len.ensures) c.in_ok-id.ensures.left)
+    ∙ length_made c.args.locks.space (c.unwrap-found.result.now.next_place - 1) c.args.locks.mode c.args.locks.user c.lock_making-making.result c.args.locks.cells))
+    (subst (λ (n : ℕ). c.in_ok-id.id + n < 2 ^ 64) c.len.ensures c.in_ok-id.ensures.left)
 
 pub returns-clause-drafts : goal.returns-clause-drafts
 returns-clause-drafts c =
