@@ -1,4 +1,5 @@
-//! Whom freezes bar.
+//! Whom freezes bar, and whom locks bar.
 #![tactic(auto)]
 
 pub mod access;
+pub mod barring;

@@ -40,6 +40,7 @@ pub outline_is : (p : Parts) (xs : List Session) (m : ℕ) (s : State) → Stand
 outline_is p xs m s st sessions_are moment_is = λ i. record {
   tables = st.tables.same i;
   spaces = below (next i) (λ n. space_same p s.durable st.spaces st.savepoints n i);
+  locks = st.locks.same i;
   next_space = next i;
   next_stamp = (counted_is p st.counters.counters (λ c. c.next_stamp) st.counters.one ∙ st.counters.next_stamp) i;
   last_moment = (counted_is p st.counters.counters (λ c. c.last_moment) st.counters.one ∙ st.counters.last_moment) i;

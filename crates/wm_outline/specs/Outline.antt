@@ -4,9 +4,10 @@ use Rattle.std.specs.Prelude.{ℕ, zero, suc, List, [], ◌∷◌, ◌++◌, map
 use Rattle.std.specs.Option.{option_map, option_map_or}
 use Rattle.wm_graph.specs.Parts.{Parts, space_of}
 use Rattle.wm_spec.specs.declared.record.counters.Counters.{Counters}
+use Rattle.wm_spec.specs.declared.record.lock.Lock.{Lock}
 use Rattle.wm_spec.specs.declared.record.space.Space.{Space}
 use Rattle.wm_spec.specs.declared.record.table.Table.{Table}
-use Rattle.wm_state.specs.Standing.{SavepointFields, SpaceFields, by_number, fields_in, fields_of, fields_saved, saved_fields, saved_in, space_after}
+use Rattle.wm_state.specs.Standing.{SavepointFields, SpaceFields, by_number, fields_in, fields_of, fields_saved, locks_by_making, saved_fields, saved_in, space_after}
 use Rattle.wm_state.specs.State.{Durable, Session, State, Workspace, next_space, workspace_of}
 
 -- a workspace: its number, its fields, and those of its savepoints, by making
@@ -15,10 +16,11 @@ pub record SpaceOutline : Type 0 where
   pub fields : SpaceFields
   pub savepoints : List SavepointFields
 
--- tables in the order of their making; workspaces by number; sessions in the order of CONNECT
+-- tables in the order of their making; workspaces by number; locks in the order of their making; sessions in the order of CONNECT
 pub record Outline : Type 0 where
   pub tables : List Table
   pub spaces : List SpaceOutline
+  pub locks : List Lock
   pub next_space : ℕ
   pub next_stamp : ℕ
   pub last_moment : ℕ
@@ -48,6 +50,7 @@ abbrev pub outline : State → Outline
 outline s = record {
   tables = s.durable.tables;
   spaces = below (next_space s.durable.spaces) (space_in s.durable);
+  locks = s.durable.locks;
   next_space = next_space s.durable.spaces;
   next_stamp = s.durable.next_stamp;
   last_moment = s.durable.last_moment;
@@ -73,6 +76,7 @@ abbrev pub outline_of : Parts → List Session → ℕ → Outline
 outline_of p sessions moment = record {
   tables = by_number p.tables;
   spaces = below (space_after p.spaces) (space_by p);
+  locks = locks_by_making p.locks;
   next_space = space_after p.spaces;
   next_stamp = counted p (λ c. c.next_stamp);
   last_moment = counted p (λ c. c.last_moment);

@@ -1,0 +1,4 @@
+pub mod Order
+pub mod Alike
+pub mod Blocks
+pub mod First
