@@ -1,0 +1,5 @@
+//! The locks of an image, in order.
+#![tactic(auto)]
+
+pub mod locks;
+pub mod makings;
