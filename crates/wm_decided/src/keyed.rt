@@ -23,11 +23,11 @@ fn column_at(columns: &[Column], place: u8) -> Option<&Column>
     columns.get(usize::from(place))
 }
 
-/// The key columns, in the order in which keys have them.
-fn key_columns(alloc: Global, table: &Table) -> Result<Vec<Column>, Memory>
-    ensures { IfOk result (λ columns. columns.items ≡ map (declared_column table.now.name) (key_columns table.now)) }
+/// The key columns of a source of that name, in the order in which keys have them.
+pub fn key_columns(alloc: Global, source: &Name, table: &Table) -> Result<Vec<Column>, Memory>
+    ensures { IfOk result (λ columns. columns.items ≡ map (declared_column source.now) (key_columns table.now)) }
 {
-    let all = columns_of_table(alloc, &table.name, table)?;
+    let all = columns_of_table(alloc, source, table)?;
     let declared = &all.as_slice()[..table.columns.len()];
     let mut columns = Vec::new(alloc);
     for place in table.key_columns.as_slice() {
@@ -43,7 +43,7 @@ fn key_columns(alloc: Global, table: &Table) -> Result<Vec<Column>, Memory>
 pub fn columns_of_keys(alloc: Global, table: &Table) -> Result<Columns, Memory>
     ensures { IfOk result (λ columns. columns ≡ columns_of_keys table.now) }
 {
-    let mut columns = key_columns(alloc, table)?;
+    let mut columns = key_columns(alloc, &table.name, table)?;
     columns.push(valid_column(alloc, &table.name)?)?;
     columns.push(valid_column(alloc, &table.name)?)?;
     Ok(Columns::from_vec(columns))

@@ -1,9 +1,10 @@
 -- The rows of views fit their columns.
 use Rattle.std.proofs.Common.{◌≡◌, ℕ, suc, ◌+◌, ◌<◌, ◌==◌, ◌&&◌, ◌||◌, Bool, true, false, nat_lt, nat_le, if◌then◌else◌, List, [], ◌∷◌, ◌++◌, map, slice_get, Option, Some, None, is_some, refl, sym, ap, ◌∙◌, arith, subst, eqb-true, eq-eqb, codes}
 use Rattle.std.proofs.lemmas.Bool.{ne_eqb, and_from, and_parts, or_right, true≢false}
+use Rattle.std.proofs.lemmas.List.Folds.{list_all-map}
 use Rattle.std.proofs.lemmas.Option.{same_Some, none-some}
 use Rattle.std.specs.Bool.{then_some}
-use Rattle.std.specs.List.{AllByRecursion, find, flat_map, list_all}
+use Rattle.std.specs.List.{AllByRecursion, filter_map, find, flat_map, list_all}
 use Rattle.std.specs.Option.{option_and_then, option_map, option_map_or, option_or}
 use Rattle.std.specs.Ordering.{is_eq}
 use Rattle.wm_base.specs.Key.{key_order}
@@ -15,7 +16,9 @@ use Rattle.wm_base.specs.declared.row.Row.{Row}
 use Rattle.wm_base.specs.declared.value.Value.{Value}
 use Rattle.wm_base.specs.declared.value.Value.TheVariants as values
 use Rattle.wm_graph.specs.Parts.{Parts, row_of, space_of, table_of, version_of}
+use Rattle.wm_decided.specs.Keys.{key_columns}
 use Rattle.wm_graph.specs.Rules.{are_cells, are_typed, differ, fit_columns, fits_column, has_key, is_hist, is_key_of, is_piece, is_row, is_row_at, is_row_of, is_short, is_typed, keep_rules, type_of, weight}
+use Rattle.wm_guard.specs.Barring.{is_of, lock_word, locks_in, span_of}
 use Rattle.wm_net.specs.Conflicts.{Stamps, in_table, same_stamps}
 use Rattle.wm_net.specs.Groups.{Group, cell}
 use Rattle.wm_net.specs.Listed.{Stretch}
@@ -29,6 +32,7 @@ use Rattle.wm_spec.specs.declared.record.column.ColumnKind.{ColumnKind}
 use Rattle.wm_spec.specs.declared.record.column.ColumnKind.TheVariants as kinds
 use Rattle.wm_spec.specs.declared.record.column.TableColumn.{TableColumn}
 use Rattle.wm_spec.specs.declared.record.hist.Hist.{Hist}
+use Rattle.wm_spec.specs.declared.record.lock.Lock.{Lock}
 use Rattle.wm_spec.specs.declared.record.piece.PieceRecord.{PieceRecord}
 use Rattle.wm_spec.specs.declared.record.row.RowRecord.{RowRecord}
 use Rattle.wm_spec.specs.declared.record.space.Space.{Space}
@@ -38,13 +42,16 @@ use Rattle.wm_state.specs.Standing.{covers_at, held_by, latest, newest_first, ow
 use Rattle.wm_state.proofs.Apart.{found-passes, ruled}
 use Rattle.wm_state.proofs.Laying.{key_same}
 use Rattle.wm_state.proofs.Appending.{all_append}
+use Rattle.wm_state.proofs.Tests.{all_if}
 use Rattle.wm_telling.specs.Telling.{clash_held, is_pending, is_unsettled, own_held, stamps_of}
 use Rattle.wm_typing.specs.Columns.{columns_of_table, declared_column, valid_column}
+use Rattle.wm_view_rows.proofs.Locked.{is_ruled, locks_ruled}
 use Rattle.wm_view_rows.specs.Columns.{columns_of_view, history_columns, text_column}
 use Rattle.wm_view_rows.specs.Conflicts.{IsConflictView, clash_rows, rows_with, values_with}
 use Rattle.wm_view_rows.specs.History.{AreLogged, Follow, IsHistoryView, event_by}
+use Rattle.wm_view_rows.specs.Locks.{lock_row, lock_view}
 use Rattle.wm_view_rows.specs.Rows.{Event, SideRows, conflict_row, conflict_rows, deleted_word, history_row, history_rows, key_value, key_values, kind_word, retired, shown_values, side_values, time_value}
-use Rattle.wm_view_rows.specs.declared.view.View.TheVariants.{Conflicts, History}
+use Rattle.wm_view_rows.specs.declared.view.View.TheVariants.{Conflicts, History, Locks}
 
 -- ---- values that fit columns
 
@@ -119,26 +126,29 @@ keys_fit source columns places key place (c ∷ cs) typed at =
 abbrev FitsTable : Table → Option (List Value) → Type 0
 FitsTable t row = (vs : List Value) → row ≡ Some vs → fit_columns t.columns vs ≡ true
 
+key_typed : (t : Table) (key : List Value) → is_key_of key t ≡ true → are_typed t.columns t.key_columns key ≡ true
+key_typed t key keyed = (and_parts (has_key t) (are_typed t.columns t.key_columns key) (and_parts (nat_le (weight key) 200) (has_key t && are_typed t.columns t.key_columns key) keyed).1).1
+
 side_fits : (source : List ℕ) (t : Table) (key : List Value) (row : Option (List Value)) → is_key_of key t ≡ true → FitsTable t row
     → fits_columns (map (declared_column source) t.columns) (side_values t key row) ≡ true
 side_fits source t key (Some vs) keyed fit = row_fits source t.columns vs (fit vs refl)
 side_fits source t key None keyed fit =
     keys_fit source t.columns t.key_columns key 0 t.columns
-    (and_parts (has_key t) (are_typed t.columns t.key_columns key) (and_parts (nat_le (weight key) 200) (has_key t && are_typed t.columns t.key_columns key) keyed).1).1
+    (key_typed t key keyed)
     (λ i. ap (slice_get t.columns) (first i))
   where
     first : (i : ℕ) → 0 + i ≡ i
     first i = omega arith
 
+valid_fits : (source : List ℕ) (period : Span) (valid : Bool) → fits_columns (if valid then valid_column source ∷ [] else []) (if valid then values.Span period ∷ [] else []) ≡ true
+valid_fits source period true = refl
+valid_fits source period false = refl
+
 shown_fits : (source : List ℕ) (t : Table) (key : List Value) (period : Span) (row : Option (List Value)) → is_key_of key t ≡ true → FitsTable t row
     → fits_columns (columns_of_table source t) (shown_values t key period row) ≡ true
 shown_fits source t key period row keyed fit =
     fits_more (map (declared_column source) t.columns) (if t.valid then valid_column source ∷ [] else []) (side_values t key row) (if t.valid then values.Span period ∷ [] else [])
-    (side_fits source t key row keyed fit) (by_valid t.valid)
-  where
-    by_valid : (valid : Bool) → fits_columns (if valid then valid_column source ∷ [] else []) (if valid then values.Span period ∷ [] else []) ≡ true
-    by_valid true = refl
-    by_valid false = refl
+    (side_fits source t key row keyed fit) (valid_fits source period t.valid)
 
 -- ---- what the rules say of what is held
 
@@ -407,3 +417,47 @@ pub history_fits : (p : Parts) (a : Space) (t : Table) (source : List ℕ) (rows
 history_fits p a t source rows rules there view =
     ap (list_all (fits (columns_of_view History source t))) view.are
     ∙ events_fit p source a.name t view.logged (logged_suits p a.number t view.logged (record { rules = rules; there = there }) view.are_logged)
+
+-- ---- locks
+
+-- a key fits the columns of keys
+keyed_fits : (source : List ℕ) (columns : List TableColumn) (places : List ℕ) (key : List Value) → are_typed columns places key ≡ true
+    → fits_columns (map (declared_column source) (filter_map (slice_get columns) places)) key ≡ true
+keyed_fits source columns [] [] typed = refl
+keyed_fits source columns [] (v ∷ key) typed = absurd (true≢false (sym typed))
+keyed_fits source columns (p ∷ places) [] typed = absurd (true≢false (sym typed))
+keyed_fits source columns (p ∷ places) (v ∷ key) typed =
+    let h = and_parts (is_typed columns p v) (are_typed columns places key) typed in
+    by_column (slice_get columns p) refl h.0 (keyed_fits source columns places key h.1)
+  where
+    by_column : (o : Option TableColumn) → slice_get columns p ≡ o → option_map_or (λ (c : TableColumn). type_place v == type_of c.kind) o false ≡ true
+        → fits_columns (map (declared_column source) (filter_map (slice_get columns) places)) key ≡ true
+        → fits_columns (map (declared_column source) (filter_map (slice_get columns) (p ∷ places))) (v ∷ key) ≡ true
+    by_column None found is rest = absurd (true≢false (sym is))
+    by_column (Some c) found is rest =
+        rw found
+        (and_from (fits_one v (type_of c.kind)) (fits_columns (map (declared_column source) (filter_map (slice_get columns) places)) key)
+        (or_right (type_place v == 0) (type_place v == type_of c.kind) is) rest)
+
+lock_row_fits : (source : List ℕ) (name : ℕ → List ℕ) (t : Table) (x : Lock) → is_key_of x.cells.key t ≡ true → fits (columns_of_view Locks source t) (lock_row name t x) ≡ true
+unfolding fits
+lock_row_fits source name t x keyed =
+    fits_more (map (declared_column source) (key_columns t)) ((if t.valid then valid_column source ∷ [] else []) ++ told) x.cells.key ((if t.valid then values.Span (span_of x.cells) ∷ [] else []) ++ texts)
+    (keyed_fits source t.columns t.key_columns x.cells.key (key_typed t x.cells.key keyed))
+    (fits_more (if t.valid then valid_column source ∷ [] else []) told (if t.valid then values.Span (span_of x.cells) ∷ [] else []) texts (valid_fits source (span_of x.cells) t.valid) refl)
+  where
+    told : List Column
+    told = text_column source (codes "WM_WORKSPACE") ∷ text_column source (codes "WM_LOCKMODE") ∷ text_column source (codes "WM_USERNAME") ∷ []
+
+    texts : List Value
+    texts = values.Text (name x.space) ∷ values.Text (lock_word x.mode) ∷ values.Text x.user ∷ []
+
+pub locks_fit : (p : Parts) (name : ℕ → List ℕ) (t : Table) (source : List ℕ) (rows : List Row) → keep_rules p ≡ true → table_of p.tables t.number ≡ Some t → rows ≡ lock_view name t p.locks
+    → list_all (fits (columns_of_view Locks source t)) rows ≡ true
+locks_fit p name t source rows rules there are =
+    ap (list_all (fits (columns_of_view Locks source t))) are
+    ∙ list_all-map (fits (columns_of_view Locks source t)) (lock_row name t) (locks_in t.number p.locks)
+    ∙ all_if (is_ruled p t.number) (λ (x : Lock). fits (columns_of_view Locks source t) (lock_row name t x))
+    (λ x is. let h = and_parts (is_of t.number x) (are_cells (table_of p.tables) x.cells) is in
+    lock_row_fits source name t x (cells_key p t x.cells (record { rules = rules; there = there }) h.1 (eqb-true x.cells.table t.number h.0)))
+    (locks_in t.number p.locks) (locks_ruled p t.number rules)

@@ -85,7 +85,10 @@ keys_more places key made n cs less =
 more : {A : Type 0} (xs ys before behind : List A) (e : A) → before ≡ xs ++ ys → behind ≡ before ++ e ∷ [] → behind ≡ xs ++ (ys ++ e ∷ [])
 more {A = A} xs ys before behind e is next = next ∙ ap (λ (l : List A). l ++ e ∷ []) is ∙ append_assoc xs ys (e ∷ [])
 
+pub three_more : {A : Type 0} (xs x1 x2 x3 : List A) (a b c : A) → x1 ≡ xs ++ a ∷ [] → x2 ≡ x1 ++ b ∷ [] → x3 ≡ x2 ++ c ∷ [] → x3 ≡ xs ++ a ∷ b ∷ c ∷ []
+three_more xs x1 x2 x3 a b c h1 h2 h3 = more xs (a ∷ b ∷ []) x2 x3 c (more xs (a ∷ []) x1 x2 b h1 h2) h3
+
 pub five_more : {A : Type 0} (xs x1 x2 x3 x4 x5 : List A) (a b c d e : A) → x1 ≡ xs ++ a ∷ [] → x2 ≡ x1 ++ b ∷ [] → x3 ≡ x2 ++ c ∷ [] → x4 ≡ x3 ++ d ∷ [] → x5 ≡ x4 ++ e ∷ []
     → x5 ≡ xs ++ a ∷ b ∷ c ∷ d ∷ e ∷ []
 five_more xs x1 x2 x3 x4 x5 a b c d e h1 h2 h3 h4 h5 =
-    more xs (a ∷ b ∷ c ∷ d ∷ []) x4 x5 e (more xs (a ∷ b ∷ c ∷ []) x3 x4 d (more xs (a ∷ b ∷ []) x2 x3 c (more xs (a ∷ []) x1 x2 b h1 h2) h3) h4) h5
+    more xs (a ∷ b ∷ c ∷ d ∷ []) x4 x5 e (more xs (a ∷ b ∷ c ∷ []) x3 x4 d (three_more xs x1 x2 x3 a b c h1 h2 h3) h4) h5

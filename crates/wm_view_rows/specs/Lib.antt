@@ -1,3 +1,4 @@
+pub mod Locks
 pub mod Views
 pub mod Columns
 pub mod Rows

@@ -1,15 +1,17 @@
 //! The columns of what is shown of a table.
-ghost use Rattle.std.specs.Prelude.{◌≡◌, ◌++◌, ◌∷◌, [], codes, IfOk, OnOk};
+ghost use Rattle.std.specs.Prelude.{◌≡◌, ◌++◌, ◌∷◌, [], codes, IfOk, OnOk, if◌then◌else◌};
 ghost use Rattle.wm_listing.specs.declared.columns.Column.{Column as OneColumn};
-ghost use Rattle.wm_typing.specs.Columns.{columns_of_table};
-ghost use Rattle.wm_view_rows.specs.Columns.{columns_of_view, history_columns, text_column};
+ghost use Rattle.wm_typing.specs.Columns.{columns_of_table, valid_column};
+ghost use Rattle.wm_view_rows.specs.Columns.{columns_of_view, history_columns, lock_columns, text_column};
 
 use crate::view::View;
 use std::alloc::Global;
 use wm_base::{Memory, Name};
+use wm_decided::keyed::key_columns;
 use wm_listing::columns::{TEXT, TIME};
 use wm_listing::{Column, Columns};
 use wm_spec::record::Table;
+use wm_typing::columns::valid_column;
 use wm_typing::columns_of_table;
 
 /// Adds a column of a source.
@@ -64,6 +66,41 @@ fn history_columns(alloc: Global, source: &Name, table: &Table) -> Result<Column
     Ok(Columns::from_vec(list))
 }
 
+/// Adds WM_VALID, where there is valid time.
+fn push_valid(
+    alloc: Global,
+    source: &Name,
+    valid: bool,
+    list: &mut Vec<Column>,
+) -> Result<(), Memory>
+    ensures { OnOk result (list.new.items ≡ list.old.items ++ (if valid then valid_column source.now ∷ [] else [])) }
+{
+    if valid {
+        list.push(valid_column(alloc, source)?)?;
+    }
+    Ok(())
+}
+
+/// Adds the columns of what is told of a lock beside its cells.
+fn push_locked(alloc: Global, source: &Name, list: &mut Vec<Column>) -> Result<(), Memory>
+    ensures { OnOk result (list.new.items ≡ list.old.items ++ text_column source.now (codes "WM_WORKSPACE") ∷ text_column source.now (codes "WM_LOCKMODE") ∷ text_column source.now (codes "WM_USERNAME") ∷ []) }
+{
+    push_column(alloc, source, b"WM_WORKSPACE", TEXT, list)?;
+    push_column(alloc, source, b"WM_LOCKMODE", TEXT, list)?;
+    push_column(alloc, source, b"WM_USERNAME", TEXT, list)?;
+    Ok(())
+}
+
+/// The columns of locks: the key columns, WM_VALID where there is valid time, and what is told of each lock.
+fn lock_columns(alloc: Global, source: &Name, table: &Table) -> Result<Columns, Memory>
+    ensures { IfOk result (λ columns. columns ≡ lock_columns source.now table.now) }
+{
+    let mut list = key_columns(alloc, source, table)?;
+    push_valid(alloc, source, table.valid, &mut list)?;
+    push_locked(alloc, source, &mut list)?;
+    Ok(Columns::from_vec(list))
+}
+
 /// The columns of what is shown of the table, as a source of that name.
 pub fn columns_of_view(
     alloc: Global,
@@ -77,5 +114,6 @@ pub fn columns_of_view(
         View::Rows => columns_of_table(alloc, source, table),
         View::Conflicts => conflict_columns(alloc, source, table),
         View::History => history_columns(alloc, source, table),
+        View::Locks => lock_columns(alloc, source, table),
     }
 }

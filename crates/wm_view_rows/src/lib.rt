@@ -1,5 +1,5 @@
-//! Views of a table: its conflicts and its history. What a name says of a source, its columns, and the rows of views as
-//! they are made of what stands.
+//! Views of a table: its conflicts, its history and the locks on it. What a name says of a source, its columns, and the
+//! rows of views as they are made of what stands.
 #![tactic(auto)]
 
 pub mod columns;

@@ -1,13 +1,16 @@
 //! The rows of views.
-ghost use Rattle.std.specs.Prelude.{◌≡◌, ◌<◌, ◌≤◌, ◌++◌, ◌∷◌, [], is_some, IfOk, OnOk, option_copied};
+ghost use Rattle.std.specs.Prelude.{◌≡◌, ◌<◌, ◌≤◌, ◌++◌, ◌∷◌, [], is_some, IfOk, OnOk, option_copied, if◌then◌else◌};
 ghost use Rattle.wm_base.specs.declared.instant.TheConstants.{END};
+ghost use Rattle.wm_guard.specs.Barring.{lock_word, span_of};
 ghost use Rattle.wm_view_rows.specs.Given.{event_at, side_rows};
+ghost use Rattle.wm_view_rows.specs.Locks.{lock_row};
 ghost use Rattle.wm_view_rows.specs.Rows.{conflict_row, conflict_rows, deleted_word, history_row, key_value, key_values, kind_word, shown_values, side_values, time_value};
 
 use std::alloc::Global;
 use wm_base::{Instant, Key, Kind, Memory, Name, Period, Row, Value, Values};
+use wm_guard::barring::word;
 use wm_listing::RowList;
-use wm_spec::record::{CellRange, Table};
+use wm_spec::record::{CellRange, Lock, Table};
 
 /// The names of a workspace and its parent.
 #[derive(Clone, Copy)]
@@ -186,7 +189,7 @@ fn time_value(moment: Option<u64>) -> Value
 }
 
 /// The period of cells.
-fn period_of(cells: &CellRange) -> Period
+pub fn period_of(cells: &CellRange) -> Period
     requires some { cells.now.from < cells.now.till }
     requires till { cells.now.till ≤ END }
     ensures { result ≡ record { from = cells.now.from; till = cells.now.till } }
@@ -241,5 +244,49 @@ pub fn history_row(
         &mut values,
     )?;
     push_told(alloc, workspace, event, over, &mut values)?;
+    Ok(Row { values })
+}
+
+/// Adds the cells of a lock: the key, and the period where the table has valid time.
+fn push_cells(
+    alloc: Global,
+    valid: bool,
+    cells: &CellRange,
+    values: &mut Values,
+) -> Result<(), Memory>
+    requires some { cells.now.from < cells.now.till }
+    requires till { cells.now.till ≤ END }
+    ensures { OnOk result (values.new ≡ values.old ++ cells.now.key ++ (if valid then Value.Span (span_of cells.now) ∷ [] else [])) }
+{
+    push_copies(alloc, cells.key.values(), values)?;
+    if valid {
+        values.push(Value::Span(period_of(cells)))?;
+    }
+    Ok(())
+}
+
+/// Adds what is told of a lock beside its cells: the workspace, the mode and the user.
+fn push_locked(
+    alloc: Global,
+    workspace: &[u8],
+    lock: &Lock,
+    values: &mut Values,
+) -> Result<(), Memory>
+    ensures { OnOk result (values.new ≡ values.old ++ Value.Text workspace.now ∷ Value.Text (lock_word lock.now.mode) ∷ Value.Text lock.now.user ∷ []) }
+{
+    push_text(alloc, workspace, values)?;
+    push_text(alloc, word(lock.mode), values)?;
+    push_text(alloc, lock.user.as_bytes(), values)
+}
+
+/// The row of a lock in the workspace of this name.
+pub fn lock_row(alloc: Global, workspace: &[u8], table: &Table, lock: &Lock) -> Result<Row, Memory>
+    requires some { lock.now.cells.from < lock.now.cells.till }
+    requires till { lock.now.cells.till ≤ END }
+    ensures { IfOk result (λ row. row ≡ lock_row (λ n. workspace.now) table.now lock.now) }
+{
+    let mut values = Values::new(alloc);
+    push_cells(alloc, table.valid, &lock.cells, &mut values)?;
+    push_locked(alloc, workspace, lock, &mut values)?;
     Ok(Row { values })
 }

@@ -2,12 +2,13 @@
 ghost use Rattle.std.specs.Prelude.{◌≡◌};
 ghost use Rattle.wm_view_rows.specs.Views.{table_sought, view_named};
 
-/// What is shown of a table: its rows, their conflicts, or its history.
+/// What is shown of a table: its rows, their conflicts, its history, or the locks on it.
 #[derive(Clone, Copy)]
 pub enum View {
     Rows,
     Conflicts,
     History,
+    Locks,
 }
 
 /// What the name of a source says is shown. No table has a name that ends like that of a view.
@@ -18,6 +19,8 @@ pub fn view_named(name: &[u8]) -> View
         View::Conflicts
     } else if name.ends_with(b"_HIST") {
         View::History
+    } else if name.ends_with(b"_LOCK") {
+        View::Locks
     } else {
         View::Rows
     }
@@ -29,7 +32,7 @@ pub fn table_sought(name: &[u8]) -> &[u8]
 {
     match view_named(name) {
         View::Rows => name,
-        // The two ends have one length.
-        View::Conflicts | View::History => &name[..name.len().saturating_sub(5)],
+        // The ends have one length.
+        View::Conflicts | View::History | View::Locks => &name[..name.len().saturating_sub(5)],
     }
 }

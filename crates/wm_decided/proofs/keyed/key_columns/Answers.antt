@@ -12,10 +12,10 @@ use Rattle.wm_decided.proofs.keyed.key_columns.Goals as goal
 pub loop-place-preserved : goal.loop-place-preserved
 loop-place-preserved c =
     let t = c.args.table.now in
-    let act = declared_column t.name in
+    let act = declared_column c.args.source.now in
     let place = get_or c.as_slice-place-items.result.now c.loop-place.place-index 0 in
     let now = c.loop-place.columns.items in
-    let more : List Column = if t.valid then valid_column t.name ∷ [] else [] in
+    let more : List Column = if t.valid then valid_column c.args.source.now ∷ [] else [] in
     let looked : option_map act (slice_get t.columns place) ≡ option_copied c.column_at.result =
     sym (c.column_at.ensures ∙ ap (λ (cs : List Column). slice_get (take c.len.result cs) place) (c.as_slice.ensures ∙ c.in_ok-all.ensures)
     ∙ declared_at act t.columns more c.len.result place c.len.ensures) in
