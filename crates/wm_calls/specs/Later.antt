@@ -26,6 +26,10 @@ is_later_procedure procedures.CommitResolve = false
 is_later_procedure procedures.RollbackResolve = false
 is_later_procedure procedures.FreezeWorkspace = false
 is_later_procedure procedures.UnfreezeWorkspace = false
+is_later_procedure procedures.SetLockingOn = false
+is_later_procedure procedures.SetLockingOff = false
+is_later_procedure procedures.LockRows = false
+is_later_procedure procedures.UnlockRows = false
 is_later_procedure _ = true
 
 abbrev pub is_later_name : Option Procedure → Bool
@@ -39,9 +43,9 @@ later_call _ = false
 
 -- ---- sources
 
--- the name of a view of differences or locks
+-- the name of a view of differences
 abbrev pub is_later_view : List ℕ → Bool
-is_later_view name = ends_with nat_eq name (codes "_DIFF") || ends_with nat_eq name (codes "_LOCK")
+is_later_view name = ends_with nat_eq name (codes "_DIFF")
 
 abbrev pub is_later_source : Src → Bool
 is_later_source s = is_later_view s.table

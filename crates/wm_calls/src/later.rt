@@ -29,7 +29,11 @@ fn is_later_procedure(procedure: Procedure) -> bool
         | Procedure::CommitResolve
         | Procedure::RollbackResolve
         | Procedure::FreezeWorkspace
-        | Procedure::UnfreezeWorkspace => false,
+        | Procedure::UnfreezeWorkspace
+        | Procedure::SetLockingOn
+        | Procedure::SetLockingOff
+        | Procedure::LockRows
+        | Procedure::UnlockRows => false,
         _ => true,
     }
 }
@@ -53,11 +57,11 @@ fn later_call(statement: &Statement) -> bool
     }
 }
 
-/// Whether it is the name of a view of differences or locks.
+/// Whether it is the name of a view of differences.
 fn is_later_view(name: &[u8]) -> bool
     ensures { result ≡ is_later_view name.now }
 {
-    name.ends_with(b"_DIFF") || name.ends_with(b"_LOCK")
+    name.ends_with(b"_DIFF")
 }
 
 fn any_later(sources: &[Src]) -> bool

@@ -9,7 +9,7 @@ use Rattle.wm_state.specs.Editing.{drafted, edited, work_of}
 use Rattle.wm_state.specs.State.{Session, State}
 use Rattle.wm_state.specs.declared.edit.Edit.{Edit}
 use Rattle.wm_state.proofs.Counting.{CountsAs, counts_as as counted_as}
-use Rattle.wm_model.specs.Step.{durably, counter_limit, line_work, at_its_end}
+use Rattle.wm_model.specs.Step.{durably, durably_by, counter_limit, line_work, at_its_end}
 use Rattle.wm_model.specs.Planning.{StandsAt, Does, Seating, SeatsStaged, Stay, seated}
 
 -- ---- nothing changes
@@ -49,25 +49,39 @@ does_edit rs xs m e answer act work can same = does_edit_seat rs xs m e Stay ans
 pub counts_as : (rs : List Stored) (xs : List Session) (m : ℕ) (s : State) (c : Counters) → StandsAt rs xs m s → (parts_of rs).counters ≡ c ∷ [] → CountsAs c s.durable
 counts_as rs xs m s c st one = counted_as (parts_of rs) s.durable c st.stands one
 
--- a line that changes something where a counter is at its end
-pub spent_work : (s : State) (log : ℕ) (done : State × Answer) → nat_lt counter_limit log ≡ false → nat_lt counter_limit (s.durable.work + line_work) ≡ true → durably s log done ≡ (s, at_its_end (codes "WORK"))
-spent_work s log done short much = rw (short, much) refl
+-- a line that changes something, and counts so much work, where a counter is at its end
+pub spent_work_by : (work : ℕ) (s : State) (log : ℕ) (done : State × Answer) → nat_lt counter_limit log ≡ false → nat_lt counter_limit (s.durable.work + work) ≡ true → durably_by work s log done ≡ (s, at_its_end (codes "WORK"))
+spent_work_by work s log done short much = rw (short, much) refl
 
-pub spent_log : (s : State) (log : ℕ) (done : State × Answer) → nat_lt counter_limit log ≡ true → durably s log done ≡ (s, at_its_end (codes "LOG"))
-spent_log s log done long = rw long refl
+pub spent_log_by : (work : ℕ) (s : State) (log : ℕ) (done : State × Answer) → nat_lt counter_limit log ≡ true → durably_by work s log done ≡ (s, at_its_end (codes "LOG"))
+spent_log_by work s log done long = rw long refl
 
-pub not_spent : (s : State) (log : ℕ) (done : State × Answer) → nat_lt counter_limit log ≡ false → nat_lt counter_limit (s.durable.work + line_work) ≡ false
-    → durably s log done ≡ (record done.0 { durable = record done.0.durable { last_moment = s.moment; work = s.durable.work + line_work } }, done.1)
-not_spent s log done short room = rw (short, room) refl
+-- and where none is
+pub not_spent_by : (work : ℕ) (s : State) (log : ℕ) (done : State × Answer) → nat_lt counter_limit log ≡ false → nat_lt counter_limit (s.durable.work + work) ≡ false
+    → durably_by work s log done ≡ (record done.0 { durable = record done.0.durable { last_moment = s.moment; work = s.durable.work + work } }, done.1)
+not_spent_by work s log done short room = rw (short, room) refl
 
 -- so, at the moment of the plan
-pub not_spent_at : (rs : List Stored) (xs : List Session) (m : ℕ) (s : State) (log : ℕ) (c : Counters) (done : State × Answer) → StandsAt rs xs m s → (parts_of rs).counters ≡ c ∷ [] → nat_lt counter_limit log ≡ false
-    → nat_lt counter_limit (c.work + line_work) ≡ false → durably s log done ≡ (record done.0 { durable = record done.0.durable { last_moment = m; work = s.durable.work + line_work } }, done.1)
-not_spent_at rs xs m s log c done st one short room =
-    not_spent s log done short (ap (λ w. nat_lt counter_limit (w + line_work)) (sym (counts_as rs xs m s c st one).work) ∙ room)
-    ∙ ap (λ n. (record done.0 { durable = record done.0.durable { last_moment = n; work = s.durable.work + line_work } }, done.1)) (sym st.moment_is)
+pub not_spent_at_by : (work : ℕ) (rs : List Stored) (xs : List Session) (m : ℕ) (s : State) (log : ℕ) (c : Counters) (done : State × Answer) → StandsAt rs xs m s → (parts_of rs).counters ≡ c ∷ [] → nat_lt counter_limit log ≡ false
+    → nat_lt counter_limit (c.work + work) ≡ false → durably_by work s log done ≡ (record done.0 { durable = record done.0.durable { last_moment = m; work = s.durable.work + work } }, done.1)
+not_spent_at_by work rs xs m s log c done st one short room =
+    not_spent_by work s log done short (ap (λ w. nat_lt counter_limit (w + work)) (sym (counts_as rs xs m s c st one).work) ∙ room)
+    ∙ ap (λ n. (record done.0 { durable = record done.0.durable { last_moment = n; work = s.durable.work + work } }, done.1)) (sym st.moment_is)
 
 -- and where the work is
+pub spent_at_by : (work : ℕ) (rs : List Stored) (xs : List Session) (m : ℕ) (s : State) (log : ℕ) (c : Counters) (done : State × Answer) → StandsAt rs xs m s → (parts_of rs).counters ≡ c ∷ [] → nat_lt counter_limit log ≡ false
+    → nat_lt counter_limit (c.work + work) ≡ true → durably_by work s log done ≡ (s, at_its_end (codes "WORK"))
+spent_at_by work rs xs m s log c done st one short much = spent_work_by work s log done short (ap (λ w. nat_lt counter_limit (w + work)) (sym (counts_as rs xs m s c st one).work) ∙ much)
+
+-- ---- so, where no lock is made
+
+pub spent_log : (s : State) (log : ℕ) (done : State × Answer) → nat_lt counter_limit log ≡ true → durably s log done ≡ (s, at_its_end (codes "LOG"))
+spent_log s log done long = spent_log_by line_work s log done long
+
+pub not_spent_at : (rs : List Stored) (xs : List Session) (m : ℕ) (s : State) (log : ℕ) (c : Counters) (done : State × Answer) → StandsAt rs xs m s → (parts_of rs).counters ≡ c ∷ [] → nat_lt counter_limit log ≡ false
+    → nat_lt counter_limit (c.work + line_work) ≡ false → durably s log done ≡ (record done.0 { durable = record done.0.durable { last_moment = m; work = s.durable.work + line_work } }, done.1)
+not_spent_at rs xs m s log c done st one short room = not_spent_at_by line_work rs xs m s log c done st one short room
+
 pub spent_at : (rs : List Stored) (xs : List Session) (m : ℕ) (s : State) (log : ℕ) (c : Counters) (done : State × Answer) → StandsAt rs xs m s → (parts_of rs).counters ≡ c ∷ [] → nat_lt counter_limit log ≡ false
     → nat_lt counter_limit (c.work + line_work) ≡ true → durably s log done ≡ (s, at_its_end (codes "WORK"))
-spent_at rs xs m s log c done st one short much = spent_work s log done short (ap (λ w. nat_lt counter_limit (w + line_work)) (sym (counts_as rs xs m s c st one).work) ∙ much)
+spent_at rs xs m s log c done st one short much = spent_at_by line_work rs xs m s log c done st one short much

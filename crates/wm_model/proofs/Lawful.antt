@@ -14,6 +14,7 @@ pub mod Deciding
 pub mod Merging
 pub mod Resolving
 pub mod Freezing
+pub mod Locking
 pub mod Step
 pub mod Runs
 pub mod Places

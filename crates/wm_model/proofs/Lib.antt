@@ -10,6 +10,7 @@ pub mod Homes
 pub mod Named
 pub mod Newest
 pub mod Changing
+pub mod Parting
 pub mod Written
 pub mod Looking
 pub mod Selecting
@@ -24,6 +25,7 @@ pub mod FirstChild
 pub mod RollingLine
 pub mod RemovingLine
 pub mod Families
+pub mod MergedLocks
 pub mod MergedEdits
 pub mod Unready
 pub mod RefreshingLine

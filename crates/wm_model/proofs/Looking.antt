@@ -1,37 +1,41 @@
 -- What a session sees in each state that the records stand for, by what it looks at.
-use Rattle.std.proofs.Common.{◌≡◌, ℕ, ◌==◌, ◌&&◌, not, Bool, true, false, if◌then◌else◌, List, [], ◌∷◌, Option, Some, None, is_some, unwrap_or, refl, sym, ap, subst, ◌∙◌}
+use Rattle.std.proofs.Common.{◌≡◌, ℕ, ◌==◌, ◌&&◌, not, Bool, true, false, if◌then◌else◌, List, [], ◌∷◌, map, Option, Some, None, is_some, unwrap_or, refl, sym, ap, subst, ◌∙◌}
 use Rattle.std.proofs.lemmas.Bool.{not-false}
 use Rattle.std.specs.Option.{option_map_or}
-use Rattle.wm_base.proofs.Plain.{nonzero}
+use Rattle.wm_base.proofs.Plain.{none_some, nonzero}
 use Rattle.wm_base.specs.Period.{Span}
 use Rattle.wm_listing.specs.declared.columns.Column.{Column}
 use Rattle.wm_listing.specs.declared.listing.Listing.{Listing as Source}
 use Rattle.wm_base.specs.declared.row.Row.{Row}
 use Rattle.wm_syntax.specs.Trees.{Src}
-use Rattle.wm_graph.specs.Parts.{parts_of, table_of}
+use Rattle.wm_graph.specs.Parts.{Parts, parts_of, space_of, table_of}
 use Rattle.wm_graph.specs.Rules.{keep_rules}
+use Rattle.wm_guard.proofs.Alike.{locks_in-listed, makings_differ}
+use Rattle.wm_guard.specs.Barring.{locks_in}
 use Rattle.wm_spec.specs.declared.record.savepoint.Savepoint.{Savepoint as Record}
 use Rattle.wm_spec.specs.declared.record.space.Space.{Space}
 use Rattle.wm_spec.specs.declared.record.stored.Stored.{Stored}
 use Rattle.wm_spec.specs.declared.record.table.Table.{Table}
 use Rattle.wm_state.specs.Listing.{IsShowing}
 use Rattle.wm_state.specs.State.{Durable, State, Session, Workspace, Stand, Latest, At, seen_from, workspace_named, workspace_of}
-use Rattle.wm_state.specs.Standing.{Stands, latest, saved_as}
+use Rattle.wm_state.specs.Standing.{SpaceFields, SpacesStand, Stands, latest, saved_as}
+use Rattle.wm_state.proofs.Apart.{ruled}
 use Rattle.wm_state.proofs.Listed.{showing_is, showing_saved}
 use Rattle.wm_state.proofs.Showing.{none_shown}
 use Rattle.wm_state.proofs.SavedAs.{made_some, made_none}
-use Rattle.wm_state.proofs.Spaces.{IsSpace, named_no_space, named_space}
+use Rattle.wm_state.proofs.Spaces.{IsSpace, named_no_space, named_space, record_there, space_there}
 use Rattle.wm_view_rows.proofs.Conflicts.{conflict_view_is}
 use Rattle.wm_view_rows.proofs.History.{history_view_is}
 use Rattle.wm_view_rows.specs.Columns.{columns_of_view}
 use Rattle.wm_view_rows.specs.Conflicts.{IsConflictView, conflict_view}
+use Rattle.wm_view_rows.specs.Locks.{lock_row, lock_view}
 use Rattle.wm_view_rows.specs.Views.{is_history, table_sought, view_named}
 use Rattle.wm_view_rows.specs.declared.view.View.{View}
-use Rattle.wm_view_rows.specs.declared.view.View.TheVariants.{Rows, Conflicts, History}
+use Rattle.wm_view_rows.specs.declared.view.View.TheVariants.{Rows, Conflicts, History, Locks}
 use Rattle.wm_model.specs.Looking.{IsFamilyOf, IsLook, conflicting_space, lost_name, lost_space, space_named}
 use Rattle.wm_model.specs.Planning.{StandsAt, tables_in, version_read}
-use Rattle.wm_model.specs.Sources.{AreConflicts, AreListed, IsSeen, Look}
-use Rattle.wm_model.specs.Step.{asks_conflicts, conflicting, conflicts_shown, lacks_history, lost_choice, lost_conflicts, lost_history, parent_in, rows_in, shown_by, source_name, sources_in, table_asked, view_shown, within}
+use Rattle.wm_model.specs.Sources.{AreConflicts, AreListed, IsSeen, Look, recorded_name}
+use Rattle.wm_model.specs.Step.{asks_conflicts, conflicting, conflicts_shown, lacks_history, lost_choice, lost_conflicts, lost_history, parent_in, rows_in, shown_by, source_name, sources_in, space_name, table_asked, view_shown, within}
 use Rattle.wm_model.proofs.Families.{related}
 use Rattle.wm_model.proofs.Named.{named_is}
 
@@ -117,6 +121,30 @@ conflicts_seen rs xs m s a w t (Some x) rows st is family are =
     ∙ ap (λ (q : Workspace). conflict_view q w t) (sym r.parent_is)
     ∙ sym (ap (λ (b : Bool). if b then [] else conflict_view (parent_in s w) w t) (ap (λ (n : ℕ). n == 0) is.number ∙ nonzero a.number family.1.0))
 
+-- ---- locks
+
+-- the workspace of a number has one name in the records and in each state that they stand for
+pub recorded_name_is : (p : Parts) (s : State) (n : ℕ) → SpacesStand p s.durable → recorded_name p n ≡ space_name s n
+recorded_name_is p s n st = by_record (space_of p.spaces n) refl (workspace_of s.durable.spaces n) refl
+  where
+    of_record : Option Space → List ℕ
+    of_record o = option_map_or (λ (r : Space). r.name) o []
+
+    of_space : Option Workspace → List ℕ
+    of_space o = option_map_or (λ (w : Workspace). w.name) o []
+
+    by_record : (o : Option Space) → space_of p.spaces n ≡ o → (q : Option Workspace) → workspace_of s.durable.spaces n ≡ q → of_record (space_of p.spaces n) ≡ of_space (workspace_of s.durable.spaces n)
+    by_record (Some r) recorded q found =
+        let h = space_there p s.durable n r st recorded in ap of_record recorded ∙ ap (λ (f : SpaceFields). f.name) h.is.fields ∙ sym (ap of_space h.is.found)
+    by_record None none None found = ap of_record none ∙ sym (ap of_space found)
+    by_record None none (Some w) found = let h = record_there p s.durable n w st found in absurd (none_some (space_of p.spaces n) h.recorded none h.is.recorded)
+
+-- the locks on a table are shown alike
+pub locks_seen : (p : Parts) (s : State) (t : Table) → keep_rules p ≡ true → Stands p s.durable → lock_view (recorded_name p) t p.locks ≡ lock_view (space_name s) t s.durable.locks
+locks_seen p s t rules st =
+    (λ i. lock_view (λ n. recorded_name_is p s n st.spaces i) t p.locks)
+    ∙ ap (map (lock_row (space_name s) t)) (sym (locks_in-listed t.number p.locks (makings_differ p _ (ruled p rules).locks)) ∙ ap (locks_in t.number) st.locks.same)
+
 -- ---- the sources of a query
 
 -- where none is the history of a table that keeps none, the first is not
@@ -145,6 +173,7 @@ view_seen rs xs m session look s w Conflicts t rows at there kept are =
     conflicts_seen rs xs m s (conflicting_space (parts_of rs).spaces session.conflict look.home) c.workspace t look.family rows at.stands c.is at.is.family are ∙ ap (λ (v : Workspace). conflicts_shown s v t) (sym c.named)
 view_seen rs xs m session look s w History t rows at there kept are =
     history_view_is (parts_of rs) s.durable session.space w look.home t rows at.stands.stands at.home.found at.home.recorded there (not-false t.history kept) are
+view_seen rs xs m session look s w Locks t rows at there kept are = are ∙ locks_seen (parts_of rs) s t at.rules at.stands.stands
 
 -- what was listed of each source is what the state shows
 pub sources_seen : (rs : List Stored) (xs : List Session) (m : ℕ) (session : Session) (look : Look) (s : State) (w : Workspace) (sources : List Src) (ls : List Source) → LooksAt rs xs m session look s w

@@ -1,19 +1,21 @@
 -- What the edits of a refresh and of a merge make of a state.
 use Rattle.std.proofs.Common.{arith, ◌≡◌, ◌≢◌, ℕ, suc, not, ◌==◌, length, Bool, true, false, cond, if◌then◌else◌, ◌+◌, ◌&&◌, ◌||◌, List, [], ◌∷◌, ◌++◌, append-nil, map, Option, Some, unwrap_or, refl, sym, ap, subst, ◌∙◌}
 use Rattle.std.proofs.lemmas.Bool.{eq-eqb, ne_eqb}
+use Rattle.std.specs.List.{filter}
 use Rattle.std.specs.Option.{option_and_then, option_map}
 use Rattle.std.specs.declared.alloc.Global.{Global}
 use Rattle.std.specs.declared.vec.Vec.{Vec}
 use Rattle.wm_spec.specs.Lists.{Entry}
-use Rattle.wm_state.specs.Editing.{all_edited, entry_of, gained_in, implicit_name, keep_in, kept_in, locks_in, parent_of, rebased, rebased_in, rebased_so, replayed_in, unlocked_of, without}
+use Rattle.wm_spec.specs.declared.record.lock.Lock.{Lock}
+use Rattle.wm_state.specs.Editing.{all_edited, entry_of, gained_in, implicit_name, keep_in, kept_in, locks_by, locks_in, parent_of, rebased, rebased_in, rebased_so, replayed_in, stays_locked, unlocked, unlocked_of, without}
 use Rattle.wm_state.specs.State.{Durable, Savepoint, Workspace, next_making, with_entries, with_gained, with_savepoint, with_space, workspace_of}
 use Rattle.wm_state.specs.declared.edit.Edit.{Edit}
 use Rattle.wm_state.specs.declared.edit.Edit.TheVariants as edits
 use Rattle.wm_state.specs.declared.edit.NewEntry.{NewEntry}
 use Rattle.wm_state.proofs.Changing.{workspace_of-changed}
 use Rattle.wm_state.proofs.EditedLater.{all_edited_append}
-use Rattle.wm_model.specs.Merged.{after_edits, gain_edits, keep_edits, merge_edits, refresh_edits, replay_edits}
-use Rattle.wm_model.specs.Step.{Asked, merged, refreshed}
+use Rattle.wm_model.specs.Merged.{after_edits, gain_edits, is_idle_at, keep_edits, merge_edits, rebase_edits, refresh_edits, replay_edits}
+use Rattle.wm_model.specs.Step.{Asked, merged, refreshed, unlock_edits}
 
 -- ---- a workspace among others
 
@@ -105,6 +107,15 @@ all_replayed m n entries d = by_test (length entries.items == 0) refl
         (sym (with_space-same n (with_entries (map entry_of entries.items)) (λ w. append_none_own (map entry_of entries.items) w (none_mapped entries.items none)) d.spaces))
     by_test false some = refl
 
+-- locks that go
+unlocked_none : (xs : List Lock) → filter (stays_locked []) xs ≡ xs
+unlocked_none [] = refl
+unlocked_none (x ∷ xs) = ap (λ ys. x ∷ ys) (unlocked_none xs)
+
+pub all_unlocked : (m : ℕ) (makings : List ℕ) (d : Durable) → all_edited m (unlock_edits makings) d ≡ unlocked makings d
+all_unlocked m [] d = ap (λ (xs : List Lock). record d { locks = xs }) (sym (unlocked_none d.locks))
+all_unlocked m (making ∷ makings) d = refl
+
 -- ---- a workspace on its parent
 
 -- the parent of a workspace is there, and says of a rebase what this one does
@@ -140,11 +151,13 @@ all_refreshed m w q entries d found above = rebased_gained m w.number false q en
 abbrev kept_first : Bool → ℕ → Workspace → Durable → Durable
 kept_first keeps m q d = if keeps then kept_in m q.number d else d
 
+-- the workspace goes, where that is asked for, and its locks go
+abbrev left_so : Bool → ℕ → Durable → Durable
+left_so removes n d = record d { spaces = if removes then without n d.spaces else d.spaces; locks = unlocked_of n d.locks }
+
 -- what becomes of a state by a merge, whether anything is pending or merged being told
 abbrev pub merged_by : Asked → Bool → ℕ → List Entry → List Entry → Workspace → Workspace → Durable → Durable
-merged_by asked even m own es q w d =
-    let e = (if even then kept_first asked.keeps m q d else merged own es q w (kept_first asked.keeps m q d)) in
-    if asked.removes then record e { spaces = without w.number e.spaces; locks = unlocked_of w.number e.locks } else e
+merged_by asked even m own es q w d = left_so asked.removes w.number (if even then kept_first asked.keeps m q d else merged own es q w (kept_first asked.keeps m q d))
 
 module _ (m : ℕ) (w q : Workspace) (d : Durable) (found : workspace_of d.spaces w.number ≡ Some w) (above : workspace_of d.spaces q.number ≡ Some q) (parent : w.parent ≡ q.number) (apart : w.number ≢ q.number) where
   -- the workspace and its parent, which may have a savepoint more
@@ -196,24 +209,43 @@ module _ (m : ℕ) (w q : Workspace) (d : Durable) (found : workspace_of d.space
   replayed_none : (own : List Entry) (e : Durable) → own ≡ [] → replayed_in q.number own e ≡ e
   replayed_none own e none = ap (λ (ws : List Workspace). record e { spaces = ws }) (with_space-same q.number (with_entries own) (λ v. append_none_own own v none) e.spaces)
 
+  -- the workspace on its parent
+  all_rebased : (even : Bool) (own : List Entry) (entries : Vec NewEntry Global) (e : Durable) → Kept e.spaces → (even ≡ true → own ≡ [])
+      → all_edited m (rebase_edits even w.number entries) (replayed_in q.number own e) ≡ (if even then e else merged own (map entry_of entries.items) q w e)
+  all_rebased true own entries e k none = replayed_none own e (none refl)
+  all_rebased false own entries e k none = rebased_gained m w.number true (with_entries own q) entries (replayed_in q.number own e) (has_merged own e k)
+
   -- what comes behind
-  all_after : (removes even : Bool) (own : List Entry) (entries : Vec NewEntry Global) (e : Durable) → Kept e.spaces → (even ≡ true → own ≡ []) → let es : List Entry = map entry_of entries.items in
-      all_edited m (after_edits removes even w.number entries) (replayed_in q.number own e)
-      ≡ (let f = (if even then e else merged own es q w e) in if removes then record f { spaces = without w.number f.spaces; locks = unlocked_of w.number f.locks } else f)
-  all_after true true own entries e k none = ap (λ (f : Durable). record f { spaces = without w.number f.spaces; locks = unlocked_of w.number f.locks }) (replayed_none own e (none refl))
-  all_after true false own entries e k none =
+  all_after : (removes even : Bool) (own : List Entry) (entries : Vec NewEntry Global) (makings : List ℕ) (e : Durable) → Kept e.spaces → (even ≡ true → own ≡ []) → filter (stays_locked makings) e.locks ≡ unlocked_of w.number e.locks
+      → all_edited m (after_edits removes even w.number entries makings) (replayed_in q.number own e) ≡ left_so removes w.number (if even then e else merged own (map entry_of entries.items) q w e)
+  all_after true true own entries makings e k none goes = ap (left_so true w.number) (replayed_none own e (none refl))
+  all_after true false own entries makings e k none goes =
       ap (λ (ws : List Workspace). record e { spaces = ws; locks = unlocked_of w.number e.locks })
       (sym (without-changed w.number (λ v. rebased true (with_entries own q) (with_gained (map entry_of entries.items) v)) (λ v. refl) (with_space q.number (with_entries own) e.spaces)))
-  all_after false true own entries e k none = replayed_none own e (none refl)
-  all_after false false own entries e k none = rebased_gained m w.number true (with_entries own q) entries (replayed_in q.number own e) (has_merged own e k)
+  all_after false even own entries makings e k none goes =
+      all_edited_append m (rebase_edits even w.number entries) (unlock_edits makings) (replayed_in q.number own e)
+      ∙ ap (all_edited m (unlock_edits makings)) (all_rebased even own entries e k none)
+      ∙ all_unlocked m makings (if even then e else merged own (map entry_of entries.items) q w e)
+      ∙ by_even even
+    where
+      by_even : (b : Bool) → unlocked makings (if b then e else merged own (map entry_of entries.items) q w e) ≡ left_so false w.number (if b then e else merged own (map entry_of entries.items) q w e)
+      by_even true = ap (λ (xs : List Lock). record e { locks = xs }) goes
+      by_even false = ap (λ (xs : List Lock). record (merged own (map entry_of entries.items) q w e) { locks = xs }) goes
 
-  pub all_merged : (asked : Asked) (even : Bool) (own entries : Vec NewEntry Global) → (even ≡ true → map entry_of own.items ≡ [])
-      → all_edited m (merge_edits asked even w.number q.number own entries) d ≡ merged_by asked even m (map entry_of own.items) (map entry_of entries.items) q w d
-  all_merged asked even own entries none =
-      all_kept asked.keeps (replay_edits q.number own ++ after_edits asked.removes even w.number entries)
-      ∙ all_edited_append m (replay_edits q.number own) (after_edits asked.removes even w.number entries) (kept_first asked.keeps m q d)
-      ∙ ap (all_edited m (after_edits asked.removes even w.number entries)) (all_replayed m q.number own (kept_first asked.keeps m q d))
-      ∙ all_after asked.removes even (map entry_of own.items) entries (kept_first asked.keeps m q d) (kept asked.keeps) none
+  -- a savepoint more leaves the locks
+  kept_locks : (keeps : Bool) → (kept_first keeps m q d).locks ≡ d.locks
+  kept_locks false = refl
+  kept_locks true = ap (λ (o : Option Workspace). (unwrap_or (option_and_then (keep_in m d) o) d).locks) above
+
+  -- where locks of these makings are those of the workspace
+  pub all_merged : (asked : Asked) (even : Bool) (own entries : Vec NewEntry Global) (makings : List ℕ) → (even ≡ true → map entry_of own.items ≡ []) → filter (stays_locked makings) d.locks ≡ unlocked_of w.number d.locks
+      → all_edited m (merge_edits asked even w.number q.number own entries makings) d ≡ merged_by asked even m (map entry_of own.items) (map entry_of entries.items) q w d
+  all_merged asked even own entries makings none goes =
+      all_kept asked.keeps (replay_edits q.number own ++ after_edits asked.removes even w.number entries makings)
+      ∙ all_edited_append m (replay_edits q.number own) (after_edits asked.removes even w.number entries makings) (kept_first asked.keeps m q d)
+      ∙ ap (all_edited m (after_edits asked.removes even w.number entries makings)) (all_replayed m q.number own (kept_first asked.keeps m q d))
+      ∙ all_after asked.removes even (map entry_of own.items) entries makings (kept_first asked.keeps m q d) (kept asked.keeps) none
+      (ap (filter (stays_locked makings)) (kept_locks asked.keeps) ∙ goes ∙ sym (ap (unlocked_of w.number) (kept_locks asked.keeps)))
 
 -- none of the edits locks
 gain_lockless : (n : ℕ) (entries : Vec NewEntry Global) → locks_in (gain_edits n entries) ≡ 0
@@ -226,32 +258,50 @@ gain_lockless n entries = by_test (length entries.items == 0)
 pub refresh_lockless : (n : ℕ) (entries : Vec NewEntry Global) → locks_in (refresh_edits n entries) ≡ 0
 refresh_lockless n entries = ap (λ k. 0 + k) (gain_lockless n entries)
 
-pub merge_lockless : (asked : Asked) (even : Bool) (n parent : ℕ) (own entries : Vec NewEntry Global) → locks_in (merge_edits asked even n parent own entries) ≡ 0
-merge_lockless asked even n parent own entries = by_keeps asked.keeps (replay_edits parent own ++ after_edits asked.removes even n entries) (by_own (length own.items == 0) (by_tests asked.removes even))
+unlock_lockless : (makings : List ℕ) → locks_in (unlock_edits makings) ≡ 0
+unlock_lockless [] = refl
+unlock_lockless (making ∷ makings) = refl
+
+-- edits behind others
+lockless_append : (es fs : List Edit) → locks_in es ≡ 0 → locks_in fs ≡ 0 → locks_in (es ++ fs) ≡ 0
+lockless_append [] fs none more = more
+lockless_append (e ∷ es) fs none more = let h = both (locks_by e) (locks_in es) none in ap (λ k. locks_by e + k) (lockless_append es fs h.1 more) ∙ ap (λ k. k + 0) h.0
   where
-    by_tests : (b c : Bool) → locks_in (after_edits b c n entries) ≡ 0
-    by_tests true c = refl
-    by_tests false true = refl
-    by_tests false false = ap (λ k. 0 + k) (gain_lockless n entries)
+    both : (j k : ℕ) → j + k ≡ 0 → (j ≡ 0) × (k ≡ 0)
+    both j k e = (omega (arith, e), omega (arith, e))
 
-    by_own : (b : Bool) → locks_in (after_edits asked.removes even n entries) ≡ 0 → locks_in (cond b [] (edits.Replay parent own ∷ []) ++ after_edits asked.removes even n entries) ≡ 0
-    by_own true none = none
-    by_own false none = ap (λ k. 0 + k) none
+pub merge_lockless : (asked : Asked) (even : Bool) (n parent : ℕ) (own entries : Vec NewEntry Global) (makings : List ℕ) → locks_in (merge_edits asked even n parent own entries makings) ≡ 0
+merge_lockless asked even n parent own entries makings =
+    lockless_append (keep_edits asked.keeps parent) (replay_edits parent own ++ after_edits asked.removes even n entries makings) (by_keeps asked.keeps)
+    (lockless_append (replay_edits parent own) (after_edits asked.removes even n entries makings) (by_own (length own.items == 0)) (by_removes asked.removes))
+  where
+    by_keeps : (b : Bool) → locks_in (keep_edits b parent) ≡ 0
+    by_keeps true = refl
+    by_keeps false = refl
 
-    by_keeps : (b : Bool) (es : List Edit) → locks_in es ≡ 0 → locks_in (keep_edits b parent ++ es) ≡ 0
-    by_keeps true es none = ap (λ k. 0 + k) none
-    by_keeps false es none = none
+    by_own : (b : Bool) → locks_in (cond b [] (edits.Replay parent own ∷ [])) ≡ 0
+    by_own true = refl
+    by_own false = refl
+
+    by_even : (b : Bool) → locks_in (rebase_edits b n entries) ≡ 0
+    by_even true = refl
+    by_even false = ap (λ k. 0 + k) (gain_lockless n entries)
+
+    by_removes : (b : Bool) → locks_in (after_edits b even n entries makings) ≡ 0
+    by_removes true = refl
+    by_removes false = lockless_append (rebase_edits even n entries) (unlock_edits makings) (by_even even) (unlock_lockless makings)
 
 -- a merge that does anything makes an edit
-pub merge_some : (asked : Asked) (even : Bool) (n k : ℕ) (own entries : Vec NewEntry Global) → (even && not (asked.keeps || asked.removes)) ≡ false → merge_edits asked even n k own entries ≡ [] → ⊥
-merge_some asked even n k own entries some none = by_asked asked.keeps asked.removes even some (replay_edits k own) none
+pub merge_some : (asked : Asked) (even : Bool) (n k : ℕ) (own entries : Vec NewEntry Global) (makings : List ℕ) → is_idle_at asked even makings ≡ false → merge_edits asked even n k own entries makings ≡ [] → ⊥
+merge_some asked even n k own entries makings some none = by_asked asked.keeps asked.removes even makings some (replay_edits k own) none
   where
     behind : (front : List Edit) (e : Edit) (back : List Edit) → front ++ e ∷ back ≡ [] → ⊥
     behind [] e back h = absurd (cc)
     behind (f ∷ front) e back h = absurd (cc)
 
-    by_asked : (keeps removes b : Bool) → (b && not (keeps || removes)) ≡ false → (front : List Edit) → keep_edits keeps k ++ (front ++ after_edits removes b n entries) ≡ [] → ⊥
-    by_asked true removes b h front e = absurd (cc)
-    by_asked false true b h front e = behind front (edits.Remove n) [] e
-    by_asked false false true h front e = absurd (cc)
-    by_asked false false false h front e = behind front (edits.Rebase n true) (gain_edits n entries) e
+    by_asked : (keeps removes b : Bool) (xs : List ℕ) → (b && ((length xs == 0) && not (keeps || removes))) ≡ false → (front : List Edit) → keep_edits keeps k ++ (front ++ after_edits removes b n entries xs) ≡ [] → ⊥
+    by_asked true removes b xs h front e = absurd (cc)
+    by_asked false true b xs h front e = behind front (edits.Remove n) [] e
+    by_asked false false true [] h front e = absurd (cc)
+    by_asked false false true (x ∷ xs) h front e = behind front (edits.Unlock (x ∷ xs)) [] e
+    by_asked false false false xs h front e = behind front (edits.Rebase n true) (gain_edits n entries ++ unlock_edits xs) e

@@ -1,9 +1,12 @@
 -- What MergeWorkspace is refused for, by the records.
-use Rattle.std.proofs.Common.{arith, suc, ◌++◌, ◌≡◌, ℕ, ◌+◌, ◌==◌, ◌&&◌, not, nat_le, nat_lt, length, Bool, true, false, if◌then◌else◌, List, [], ◌∷◌, Option, Some, None, is_some, refl, sym, ap, ◌∙◌, codes}
+use Rattle.std.proofs.Common.{arith, suc, ◌++◌, ◌≡◌, ℕ, ◌+◌, ◌==◌, ◌&&◌, not, nat_le, nat_lt, length, Bool, true, false, if◌then◌else◌, List, [], ◌∷◌, map, Option, Some, None, is_some, refl, sym, ap, ◌∙◌, codes}
 use Rattle.std.specs.Fmt.{decimal}
 use Rattle.std.specs.List.{count_by, find}
 use Rattle.std.specs.Str.{bytes_eq}
 use Rattle.wm_graph.specs.Parts.{parts_of}
+use Rattle.wm_net.specs.Nets.{net}
+use Rattle.wm_outline.proofs.Outlines.{outline_is}
+use Rattle.wm_outline.specs.Outline.{outline}
 use Rattle.wm_spec.specs.Lists.{Entry}
 use Rattle.wm_spec.specs.declared.record.savepoint.Savepoint.{Savepoint as Record}
 use Rattle.wm_spec.specs.declared.record.space.Space.{Space}
@@ -15,11 +18,12 @@ use Rattle.wm_state.specs.State.{Session, State, savepoint_named}
 use Rattle.wm_forked.proofs.Points.{few_same, name_free, name_taken}
 use Rattle.wm_telling.specs.Telling.{IsHeldListing, own_held}
 use Rattle.wm_telling.proofs.Relisting.{empty_own, own_empty}
-use Rattle.wm_model.specs.Merged.{Clashed, IsClash, is_even_at, is_quiet_at, keeping_refusal, leaving_refusal, merging_refusal, naming_refusal, rebase_fault}
+use Rattle.wm_model.specs.Merged.{Clashed, IsClash, is_even_at, is_quiet_at, keeping_refusal, leaving_refusal, merge_lock_refusal, merging_refusal, naming_refusal, rebase_fault}
 use Rattle.wm_model.specs.Planning.{StandsAt}
-use Rattle.wm_model.specs.Step.{Asked, at_its_end, first_fault, is_even, keeping_faults, leaving_faults, merging_faults, most_savepoints, number_limit, refused_if, resolving_fault, savepoint_there}
+use Rattle.wm_model.specs.Step.{Asked, Claim, at_its_end, cells_of, first_fault, is_even, keeping_faults, leaving_faults, lock_fault, merge_lock_fault, merging_faults, most_savepoints, number_limit, refused_if, resolving_fault, savepoint_there}
 use Rattle.wm_model.specs.Undone.{going_refusal, resolving_refusal}
-use Rattle.wm_model.proofs.Families.{Family, conflict_same, quiet_same}
+use Rattle.wm_model.proofs.Families.{Family, conflict_same, own_same, quiet_same}
+use Rattle.wm_model.proofs.MergedLocks.{lock_fault-alike}
 use Rattle.wm_model.proofs.RemovingLine.{going_same}
 use Rattle.wm_model.proofs.RollingLine.{resolving_same}
 
@@ -81,15 +85,29 @@ module _ (rs : List Stored) (workspace : List ℕ) (a b : Space) (xs : List Sess
       by_test true = refl
       by_test false = ap (λ (x : SpaceFields). refused_if (nat_lt number_limit (x.rebases + 1)) (at_its_end (codes "REBASE"))) (sym f.is.fields)
 
+  -- a lock that bars what is own
+  lock_same : (session : Session) (own : List Entry) → IsHeldListing (parts_of rs) m session.user (own_held (parts_of rs) a) own → merge_lock_fault session s f.q f.w ≡ merge_lock_refusal session (parts_of rs) a b own
+  lock_same session own listed =
+      ap (λ k. lock_fault (outline s) (claim f.q.number f.w.number) (map cells_of (net k session.user f.w.lists.own))) (sym st.moment_is)
+      ∙ ap (λ es. lock_fault (outline s) (claim f.q.number f.w.number) (map cells_of es)) (sym (own_same rs workspace a b s f m session.user own listed))
+      ∙ ap (λ n. lock_fault (outline s) (claim n f.w.number) (map cells_of own)) f.above.number
+      ∙ ap (λ n. lock_fault (outline s) (claim b.number n) (map cells_of own)) f.is.number
+      ∙ ap (λ o. lock_fault o (claim b.number a.number) (map cells_of own)) (sym (outline_is (parts_of rs) xs m s st.stands st.sessions_are st.moment_is))
+      ∙ lock_fault-alike (parts_of rs) xs [] m 0 (claim b.number a.number) (map cells_of own)
+    where
+      claim : ℕ → ℕ → Claim
+      claim parent n = record { space = parent; user = session.user; except = Some n }
+
   -- all of it, fault by fault
-  pub merging_same : (asked : Asked) (found : Option Clashed) (user : List ℕ) (own : List Entry) → IsClash (parts_of rs) a b found → IsHeldListing (parts_of rs) m user (own_held (parts_of rs) a) own
-      → first_fault (merging_faults asked s f.q f.w) ≡ merging_refusal asked (parts_of rs) xs a b found own
-  merging_same asked found user own clash listed = λ i.
+  pub merging_same : (session : Session) (asked : Asked) (found : Option Clashed) (own : List Entry) → IsClash (parts_of rs) a b found → IsHeldListing (parts_of rs) m session.user (own_held (parts_of rs) a) own
+      → first_fault (merging_faults session asked s f.q f.w) ≡ merging_refusal session asked (parts_of rs) xs a b found own
+  merging_same session asked found own clash listed = λ i.
       first_fault
       (naming_same asked.keeps i
       ∷ leaving_same asked.removes i
       ∷ open_same i
       ∷ conflict_same rs workspace a b s f found clash i
+      ∷ lock_same session own listed i
       ∷ keeping_same asked.keeps i
-      ∷ rebasing_same (is_even_at a b own) (even_same m user own listed) i
+      ∷ rebasing_same (is_even_at a b own) (even_same m session.user own listed) i
       ∷ [])

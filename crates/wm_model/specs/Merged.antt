@@ -1,5 +1,5 @@
 -- What is looked up in the records where a workspace is refreshed or merged.
-use Rattle.std.specs.Prelude.{ℕ, ◌≡◌, ◌+◌, ◌<◌, Bool, true, false, ◌&&◌, ◌||◌, ◌==◌, nat_le, nat_lt, if◌then◌else◌, List, [], ◌∷◌, ◌++◌, length, max, Option, Some, None, is_some, codes}
+use Rattle.std.specs.Prelude.{ℕ, ◌≡◌, ◌+◌, ◌<◌, Bool, true, false, not, ◌&&◌, ◌||◌, ◌==◌, nat_le, nat_lt, if◌then◌else◌, List, [], ◌∷◌, ◌++◌, length, map, max, Option, Some, None, is_some, codes}
 use Rattle.std.specs.List.{count_by, find, list_all}
 use Rattle.std.specs.Str.{bytes_eq}
 use Rattle.std.specs.declared.alloc.Global.{Global}
@@ -10,6 +10,8 @@ use Rattle.wm_base.specs.declared.value.Value.{Value}
 use Rattle.wm_graph.specs.Parts.{Parts, parts_of, space_of, table_of}
 use Rattle.wm_graph.specs.Rules.{is_short}
 use Rattle.wm_spec.specs.Lists.{Cell, Entry}
+pub use Rattle.wm_guard.specs.Barring.{makings_of}
+use Rattle.wm_outline.specs.Outline.{outline_of}
 use Rattle.wm_spec.specs.declared.record.savepoint.Savepoint.{Savepoint}
 use Rattle.wm_spec.specs.declared.record.space.Space.{Space}
 use Rattle.wm_spec.specs.declared.record.stored.Stored.{Stored}
@@ -25,7 +27,7 @@ use Rattle.wm_state.specs.declared.edit.NewEntry.{NewEntry}
 use Rattle.wm_telling.specs.Telling.{IsFirstClash, IsHeldListing, clash_held, gained_held, own_held}
 use Rattle.wm_print.specs.Texts.{Answer}
 use Rattle.wm_model.specs.Seating.{Seating, Stay, Thaw}
-use Rattle.wm_model.specs.Step.{Asked, at_its_end, first_fault, in_conflict, most_savepoints, number_limit, refused_for, refused_if, savepoint_there, told_period}
+use Rattle.wm_model.specs.Step.{Asked, at_its_end, cells_of, first_fault, in_conflict, lock_fault, most_savepoints, number_limit, refused_for, refused_if, savepoint_there, told_period, unlock_edits}
 use Rattle.wm_model.specs.Undone.{NamesSpace, going_refusal, resolving_refusal}
 
 -- ---- conflicts
@@ -118,14 +120,19 @@ keeping_refusal keeps p b =
 abbrev pub is_even_at : Space → Space → List Entry → Bool
 is_even_at a b own = (length own == 0) && is_quiet_at a b
 
+-- a lock bars the merge; the locks of the workspace itself do not
+abbrev pub merge_lock_refusal : Session → Parts → Space → Space → List Entry → Option Refusal
+merge_lock_refusal session p a b own = lock_fault (outline_of p [] 0) (record { space = b.number; user = session.user; except = Some a.number }) (map cells_of own)
+
 -- what MergeWorkspace is refused for
-abbrev pub merging_refusal : Asked → Parts → List Session → Space → Space → Option Clashed → List Entry → Option Refusal
-merging_refusal asked p xs a b found own =
+abbrev pub merging_refusal : Session → Asked → Parts → List Session → Space → Space → Option Clashed → List Entry → Option Refusal
+merging_refusal session asked p xs a b found own =
     first_fault
     (naming_refusal asked.keeps p b
     ∷ leaving_refusal asked.removes p xs a
     ∷ resolving_refusal xs a
     ∷ clash_fault p found
+    ∷ merge_lock_refusal session p a b own
     ∷ keeping_refusal asked.keeps p b
     ∷ (if is_even_at a b own then None else rebase_fault a)
     ∷ [])
@@ -136,7 +143,7 @@ pub record Merges (rs : List Stored) (m : ℕ) (xs : List Session) (session : Se
   pub family : NamesFamily rs workspace a b
   pub found : Option Clashed
   pub clash : IsClash (parts_of rs) a b found
-  pub clear : merging_refusal asked (parts_of rs) xs a b found own ≡ None
+  pub clear : merging_refusal session asked (parts_of rs) xs a b found own ≡ None
   pub own_listed : IsHeldListing (parts_of rs) m session.user (own_held (parts_of rs) a) own
   pub gained_listed : IsHeldListing (parts_of rs) m session.user (gained_held (parts_of rs) a b) es
 
@@ -150,12 +157,20 @@ keep_edits keeps n = if keeps then edits.Keep n ∷ [] else []
 abbrev pub replay_edits : ℕ → Vec NewEntry Global → List Edit
 replay_edits n entries = if length entries.items == 0 then [] else edits.Replay n entries ∷ []
 
--- how the workspace stands behind it: it goes, or it stands on its parent, unless nothing was merged or pending
-abbrev pub after_edits : Bool → Bool → ℕ → Vec NewEntry Global → List Edit
-after_edits removes even n entries = if removes then edits.Remove n ∷ [] else (if even then [] else edits.Rebase n true ∷ gain_edits n entries)
+-- the workspace stands on its parent, unless nothing was merged or pending
+abbrev pub rebase_edits : Bool → ℕ → Vec NewEntry Global → List Edit
+rebase_edits even n entries = if even then [] else edits.Rebase n true ∷ gain_edits n entries
 
-abbrev pub merge_edits : Asked → Bool → ℕ → ℕ → Vec NewEntry Global → Vec NewEntry Global → List Edit
-merge_edits asked even n parent own entries = keep_edits asked.keeps parent ++ (replay_edits parent own ++ after_edits asked.removes even n entries)
+-- there is nothing to do: nothing is to be merged or pending, the workspace has no locks, and nothing is asked for besides
+abbrev pub is_idle_at : Asked → Bool → List ℕ → Bool
+is_idle_at asked even makings = even && ((length makings == 0) && not (asked.keeps || asked.removes))
+
+-- how the workspace stands behind it: it goes, or it stands on its parent and its locks go
+abbrev pub after_edits : Bool → Bool → ℕ → Vec NewEntry Global → List ℕ → List Edit
+after_edits removes even n entries makings = if removes then edits.Remove n ∷ [] else rebase_edits even n entries ++ unlock_edits makings
+
+abbrev pub merge_edits : Asked → Bool → ℕ → ℕ → Vec NewEntry Global → Vec NewEntry Global → List ℕ → List Edit
+merge_edits asked even n parent own entries makings = keep_edits asked.keeps parent ++ (replay_edits parent own ++ after_edits asked.removes even n entries makings)
 
 -- and of the sessions: where the workspace goes, none holds it any more
 abbrev pub freeing : Asked → ℕ → Seating

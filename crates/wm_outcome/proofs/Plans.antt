@@ -1,5 +1,6 @@
 -- From a plan of the outline of records to what a line does to each state for which they stand.
-use Rattle.std.proofs.Common.{◌≡◌, ℕ, ◌+◌, nat_lt, nat_le, Bool, true, false, not, if◌then◌else◌, List, [], ◌∷◌, Option, Some, None, refl, sym, ap, ◌∙◌, subst, arith}
+use Rattle.std.proofs.Common.{◌≡◌, ℕ, ◌+◌, nat_lt, nat_le, Bool, true, false, not, if◌then◌else◌, List, [], ◌∷◌, Option, Some, None, refl, sym, ap, ◌∙◌, subst, add-zero, arith}
+use Rattle.std.proofs.lemmas.Bool.Decides.{nat_tests}
 use Rattle.wm_base.specs.declared.instant.TheConstants.{END}
 use Rattle.wm_base.specs.declared.refusal.Refusal.{Refusal}
 use Rattle.wm_graph.specs.Parts.{Parts, parts_of}
@@ -13,7 +14,7 @@ use Rattle.wm_state.specs.Editing.{line_work, locks_by}
 use Rattle.wm_state.specs.State.{Session, State}
 use Rattle.wm_state.specs.declared.edit.Edit.{Edit}
 use Rattle.wm_model.specs.Planning.{Does, SeatsStaged, StandsAt, planned}
-use Rattle.wm_model.specs.Step.{Outcome, Plan, also, barred_outcome, comes, counter_limit, done_so, is_spent, outcome, refusal_of, refused_or, refused_with, run}
+use Rattle.wm_model.specs.Step.{Outcome, Plan, also, barred_outcome, comes, counter_limit, done_so, is_spent, is_spent_by, outcome, refusal_of, refused_or, refused_with, run}
 use Rattle.wm_model.specs.Step.Places.{least, place, sooner}
 
 -- ---- what comes of a plan
@@ -58,12 +59,24 @@ barred_is fault p says = by_least (least p.faults) fault
 
 -- ---- work
 
--- where it is not spent, a line may change something
-pub can_work : (p : Parts) (xs : List Session) (m : ℕ) → keep_rules p ≡ true → nat_lt m END ≡ true → is_spent (outline_of p xs m) ≡ false → CanWork p m line_work
-can_work p xs m rules early room =
+-- where it is not spent for so many locks, a line may make them
+pub can_work_by : (p : Parts) (xs : List Session) (m locks : ℕ) → keep_rules p ≡ true → nat_lt m END ≡ true → is_spent_by locks (outline_of p xs m) ≡ false → CanWork p m (locks + line_work)
+can_work_by p xs m locks rules early room =
     let c = (ruled p rules).counters in
-    record { counters = c; one = (ruled p rules).one; some = refl; room = ap (λ w. nat_lt counter_limit (w + line_work)) (sym (counted_is p c (λ c. c.work) (ruled p rules).one)) ∙ room; early = early }
+    record { counters = c; one = (ruled p rules).one; some = some locks; room = ap (λ w. nat_lt counter_limit (w + (locks + line_work))) (sym (counted_is p c (λ c. c.work) (ruled p rules).one)) ∙ room; early = early }
+  where
+    some : (n : ℕ) → nat_lt 0 (n + line_work) ≡ true
+    some n = grind (arith, nat_tests)
 
--- one edit may be drafted, where it can be made and makes no lock
+-- so may one that makes none
+pub can_work : (p : Parts) (xs : List Session) (m : ℕ) → keep_rules p ≡ true → nat_lt m END ≡ true → is_spent (outline_of p xs m) ≡ false → CanWork p m line_work
+can_work p xs m rules early room = can_work_by p xs m 0 rules early room
+
+-- one edit may be drafted that makes so many locks, where it can be made
+pub drafts_by : (rs : List Stored) (xs : List Session) (m : ℕ) (e : Edit) → keep_rules (parts_of rs) ≡ true → nat_lt m END ≡ true → is_spent_by (locks_by e) (outline_of (parts_of rs) xs m) ≡ false → CanEdit (parts_of rs) m e → CanDraft rs m (e ∷ [])
+drafts_by rs xs m e rules early room can =
+    (subst (λ n. CanWork (parts_of rs) m (n + line_work)) (sym (add-zero (locks_by e))) (can_work_by (parts_of rs) xs m (locks_by e) rules early room), omega arith, (can, λ given changes drafts. tt))
+
+-- so, where it makes none
 pub drafts_one : (rs : List Stored) (xs : List Session) (m : ℕ) (e : Edit) → keep_rules (parts_of rs) ≡ true → nat_lt m END ≡ true → locks_by e ≡ 0 → is_spent (outline_of (parts_of rs) xs m) ≡ false → CanEdit (parts_of rs) m e → CanDraft rs m (e ∷ [])
 drafts_one rs xs m e rules early none room can = (subst (CanWork (parts_of rs) m) (sym (ap (λ n. n + 0 + line_work) none)) (can_work (parts_of rs) xs m rules early room), omega arith, (can, λ given changes drafts. tt))

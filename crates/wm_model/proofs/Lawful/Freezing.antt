@@ -15,9 +15,9 @@ use Rattle.wm_state.proofs.Changing.{differ-changed}
 use Rattle.wm_syntax.specs.declared.statement.Arg.{Arg}
 use Rattle.wm_model.specs.Lawful.{Holds, IsSound, LawfulMark, LawfulSpace, LawfulState}
 use Rattle.wm_model.specs.Seating.{Stay, planned}
-use Rattle.wm_model.specs.Step.{Plan, State, for_named, freeze_plan, freezing, freezing_edits, freezing_seating, hold_asked, hold_on, no_workspace, run, space_named, thawing, unfreeze_plan}
+use Rattle.wm_model.specs.Step.{State, for_named, freeze_plan, freezing, freezing_edits, freezing_seating, hold_asked, hold_on, no_workspace, run, space_named, thawing, unfreeze_plan}
 use Rattle.wm_model.proofs.Lawful.Entries.{all_swapped}
-use Rattle.wm_model.proofs.Lawful.Leaves.{Leaves, leaves_held, leaves_run, leaves_thawed}
+use Rattle.wm_model.proofs.Lawful.Leaves.{IsLawful, Leaves, leaves_held, leaves_run, leaves_thawed}
 use Rattle.wm_model.proofs.Lawful.Spaces.{Goes, changed, seats_kept, spaces_kept}
 
 -- ---- a workspace that is frozen, or is free again
@@ -91,10 +91,6 @@ lawful_frozen n mode writer s l = by_space (workspace_of s.durable.spaces n) ref
         }
 
 -- ---- plans
-
--- what a plan makes of the state where nothing refuses it
-abbrev IsLawful : State → Plan → Type 0
-IsLawful s p = LawfulState (planned s.moment s.moment p.edits p.seating s)
 
 -- the one edit of a plan, with its work
 planned_frozen : (n : ℕ) (mode : FreezeMode) (writer : List ℕ) (s : State) → LawfulState s → LawfulState (planned s.moment s.moment (edits.Freeze n mode writer ∷ []) Stay s)

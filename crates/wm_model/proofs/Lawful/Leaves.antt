@@ -12,7 +12,7 @@ use Rattle.wm_state.specs.State.{Durable, Savepoint, Session, State, Workspace, 
 use Rattle.wm_state.proofs.Changing.{differ-changed}
 use Rattle.wm_model.specs.Lawful.{Each, IsPlace, IsSound, Lawful, LawfulState, Seats, staged_in}
 use Rattle.wm_model.specs.Seating.{planned, thawed}
-use Rattle.wm_model.specs.Step.{Plan, Setting, altered, at_latest, barred, born, child_of, comes, counter_limit, done_so, durably, given, is_before, is_name, latest, least, line_work, newly_named, no_table, no_workspace, place_behind, refused_or, run, saved, saved_at, unless, unless_empty_period, unless_latest, unless_mistyped, with_named, with_setting, with_table, written_all}
+use Rattle.wm_model.specs.Step.{Plan, Setting, altered, at_latest, barred, born, child_of, comes, counter_limit, done_so, durably, durably_by, given, is_before, is_name, latest, least, line_work, newly_named, no_table, no_workspace, place_behind, refused_or, run, saved, saved_at, unless, unless_empty_period, unless_latest, unless_mistyped, with_named, with_setting, with_table, written_all}
 use Rattle.wm_model.specs.Step.Sessions as settings
 use Rattle.wm_model.proofs.Lawful.Entries.{Written, all_more, all_saved, entries_more, mark_holds}
 use Rattle.wm_model.proofs.Lawful.Saving.{child_lawful, fits, space_appended, space_saved}
@@ -40,11 +40,14 @@ pub leaves_unless_mistyped : (fault : Option (List ℕ)) (s : State) (done : Sta
 leaves_unless_mistyped None s done l d = d
 leaves_unless_mistyped (Some parameter) s done l d = record { lawful = l }
 
-pub leaves_durably : (s : State) (log : ℕ) (done : State × Answer) → LawfulState s → Leaves done → Leaves (durably s log done)
-leaves_durably s log done l d =
+pub leaves_durably_by : (work : ℕ) (s : State) (log : ℕ) (done : State × Answer) → LawfulState s → Leaves done → Leaves (durably_by work s log done)
+leaves_durably_by work s log done l d =
     leaves_if (nat_lt counter_limit log) _ _ (stays s _ l)
-    (leaves_if (nat_lt counter_limit (s.durable.work + line_work)) _ _ (stays s _ l)
+    (leaves_if (nat_lt counter_limit (s.durable.work + work)) _ _ (stays s _ l)
     (record { lawful = record { durable = record { spaces = d.lawful.durable.spaces; entries = d.lawful.durable.entries }; seats = d.lawful.seats } }))
+
+pub leaves_durably : (s : State) (log : ℕ) (done : State × Answer) → LawfulState s → Leaves done → Leaves (durably s log done)
+leaves_durably s log done l d = leaves_durably_by line_work s log done l d
 
 pub leaves_with_table : (s : State) (name : List ℕ) (act : Table → State × Answer) → LawfulState s → ((t : Table) → Leaves (act t)) → Leaves (with_table s name act)
 leaves_with_table s name act l a = by_table (table_named name s.durable.tables)
@@ -83,8 +86,12 @@ pub leaves_barred : (fault : Option Refusal) (s : State) (done : State × Answer
 leaves_barred None s done l d = d
 leaves_barred (Some refusal) s done l d = leaves_if (is_before done.1 refusal) _ _ d (stays s _ l)
 
+-- what a plan makes of the state where nothing refuses it
+abbrev pub IsLawful : State → Plan → Type 0
+IsLawful s p = LawfulState (planned s.moment s.moment p.edits p.seating s)
+
 -- a plan: what it does is lawful where nothing refuses it
-pub leaves_run : (p : Plan) (s : State) → LawfulState s → (least p.faults ≡ None → LawfulState (planned s.moment s.moment p.edits p.seating s)) → Leaves (run p s)
+pub leaves_run : (p : Plan) (s : State) → LawfulState s → (least p.faults ≡ None → IsLawful s p) → Leaves (run p s)
 leaves_run p s l done = by_fault (least p.faults) refl
   where
     by_fault : (fault : Option Refusal) → least p.faults ≡ fault → Leaves (comes (refused_or fault (done_so p)) s)

@@ -8,11 +8,11 @@ use Rattle.wm_net.proofs.Merging.{merge_law, refresh_law}
 use Rattle.wm_net.proofs.Netting.{Alike-net, gained_is}
 use Rattle.wm_print.specs.Texts.{Fine}
 use Rattle.wm_spec.specs.Lists.{Alike, Entry, Told}
-use Rattle.wm_state.specs.Editing.{implicit_name, kept_in, saved}
+use Rattle.wm_state.specs.Editing.{implicit_name, kept_in, saved, unlocked_of, without}
 use Rattle.wm_state.specs.State.{Durable, Savepoint, Session, Stand, Latest, At, Workspace, content, fresh_live, next_making, with_entries, with_savepoint, with_space, workspace_of}
 use Rattle.wm_state.proofs.Changing.{differ-changed, workspace_of-changed}
 use Rattle.wm_model.specs.Lawful.{Each, IsAt, IsSound, LawfulSpaces, LawfulState, Seats}
-use Rattle.wm_model.specs.Step.{Answer, Asked, State, first_fault, gained_of, has_child, is_child, is_even, is_quiet, leaving_faults, longer_log, merge, merge_workspace, merged, merged_with, merging_faults, no_parent, parent_in, pending, refresh, refresh_workspace, refreshed, refreshing_faults, removed, session_inside, stands_in, unless}
+use Rattle.wm_model.specs.Step.{Answer, Asked, State, first_fault, gained_of, has_child, has_locks, is_child, is_even, is_quiet, leaving_faults, longer_log, merge, merge_workspace, merged, merged_with, merging_faults, no_parent, parent_in, pending, refresh, refresh_workspace, refreshed, refreshing_faults, removed, session_inside, stands_in, unless}
 use Rattle.wm_model.proofs.Lawful.Entries.{AllHold, all_swapped, holds_appended}
 use Rattle.wm_model.proofs.Lawful.Firsts.{no_faults, none_inside, none_named, none_refused}
 use Rattle.wm_model.proofs.Lawful.Leaves.{Leaves, leaves_durably, leaves_if, leaves_saved, leaves_unless, leaves_with_named, stays}
@@ -199,14 +199,19 @@ alone_with true s w none removes = let h = no_faults (leaving_faults true s w) n
 }
 alone_with false s w none removes = absurd (true≢false (sym removes))
 
--- the workspace goes, where that is asked for
+-- the workspace goes, where that is asked for, and its locks go
 abbrev gone : Bool → Workspace → State → State
-gone removes w s = record s { durable = if removes then (removed w s).durable else s.durable; sessions = if removes then (removed w s).sessions else s.sessions }
+gone removes w s = record s {
+  durable = record s.durable { spaces = if removes then without w.number s.durable.spaces else s.durable.spaces; locks = unlocked_of w.number s.durable.locks };
+  sessions = if removes then (removed w s).sessions else s.sessions;
+}
 
 leaves_removed : (removes : Bool) (w : Workspace) (s : State) (answer : Answer) → LawfulState s → 0 < w.number → (removes ≡ true → Alone s w)
     → Leaves (gone removes w s, answer)
 leaves_removed true w s answer l above alone = let a = alone refl in leaves_left w s answer l above a.none a.away
-leaves_removed false w s answer l above alone = stays s _ l
+leaves_removed false w s answer l above alone = record {
+  lawful = record { durable = record { spaces = l.durable.spaces; entries = l.durable.entries }; seats = l.seats };
+}
 
 -- what is merged with the parent that is there
 leaves_merged : (removes : Bool) (user : List ℕ) (w p : Workspace) (s : State) → LawfulState s → 0 < w.number → workspace_of s.durable.spaces w.number ≡ Some w → workspace_of s.durable.spaces w.parent ≡ Some p → (removes ≡ true → Alone s w)
@@ -268,13 +273,13 @@ leaves_kept removes user w p s l above child parent alone =
     still asked = let a = alone asked in record { none = none_changed p.number act s.durable.spaces w (λ _. refl) (λ _. refl) a.none; away = a.away }
 
 leaves_merge : (session : Session) (asked : Asked) (w p : Workspace) (s : State) → LawfulState s → 0 < w.number → workspace_of s.durable.spaces w.number ≡ Some w → workspace_of s.durable.spaces w.parent ≡ Some p
-    → first_fault (merging_faults asked s p w) ≡ None → Leaves (merge session asked p w s)
+    → first_fault (merging_faults session asked s p w) ≡ None → Leaves (merge session asked p w s)
 leaves_merge session asked w p s l above child parent none =
-    leaves_if (is_even p w && not (asked.keeps || asked.removes)) _ _ (stays s _ l)
+    leaves_if (is_even p w && not (has_locks w.number s.durable.locks || (asked.keeps || asked.removes))) _ _ (stays s _ l)
     (leaves_durably s (longer_log s.moment session.user p w) _ l (by_keeps asked.keeps))
   where
     alone : asked.removes ≡ true → Alone s w
-    alone = alone_with asked.removes s w (no_faults (merging_faults asked s p w) none).1.0
+    alone = alone_with asked.removes s w (no_faults (merging_faults session asked s p w) none).1.0
 
     made : Bool → Durable
     made keeps = merged_with (net s.moment session.user w.lists.own) (gained_of s.moment session.user p w) p w (if keeps then kept_in s.moment p.number s.durable else s.durable)
@@ -286,5 +291,5 @@ leaves_merge session asked w p s l above child parent none =
 pub leaves_merge_workspace : (session : Session) (asked : Asked) (name : List ℕ) (s : State) → LawfulState s → Leaves (merge_workspace session asked name s)
 leaves_merge_workspace session asked name s l =
     leaves_with_named s name _ l
-    (leaves_below_live s name (λ w. unless (first_fault (merging_faults asked s (parent_in s w) w)) s (merge session asked (parent_in s w) w s)) l
-    (λ w known above. leaves_faultless (first_fault (merging_faults asked s (parent_in s w) w)) s _ l (leaves_merge session asked w (parent_in s w) s l above known (parent_found s w l above known))))
+    (leaves_below_live s name (λ w. unless (first_fault (merging_faults session asked s (parent_in s w) w)) s (merge session asked (parent_in s w) w s)) l
+    (λ w known above. leaves_faultless (first_fault (merging_faults session asked s (parent_in s w) w)) s _ l (leaves_merge session asked w (parent_in s w) s l above known (parent_found s w l above known))))

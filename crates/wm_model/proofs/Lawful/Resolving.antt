@@ -1,5 +1,5 @@
 -- The four calls that resolve conflicts leave a lawful state.
-use Rattle.std.proofs.Common.{◌≡◌, ℕ, ◌+◌, ◌-◌, Bool, List, [], ◌∷◌, length, unwrap_or, Option, Some, None, refl, ◌∙◌}
+use Rattle.std.proofs.Common.{◌≡◌, ℕ, ◌+◌, ◌-◌, Bool, List, [], ◌∷◌, length, map, unwrap_or, Option, Some, None, refl, ◌∙◌}
 use Rattle.std.specs.List.{find, flat_map}
 use Rattle.wm_syntax.specs.Trees.{Cond}
 use Rattle.wm_decided.specs.Deciding.{decisions_in}
@@ -7,13 +7,14 @@ use Rattle.wm_decided.specs.Keys.{meets_key}
 use Rattle.wm_decided.specs.Netted.{entries_decided, marks_of}
 use Rattle.wm_decided.specs.declared.keep.Keep.{Keep}
 use Rattle.wm_net.specs.Conflicts.{Settled}
+use Rattle.wm_outline.specs.Outline.{outline}
 use Rattle.wm_print.specs.Texts.{Done, Fine}
 use Rattle.wm_spec.specs.Lists.{Entry}
 use Rattle.wm_spec.specs.declared.record.table.Table.{Table}
 use Rattle.wm_state.specs.State.{Decision, Savepoint, Session, Workspace, content, fresh_live, with_entries, with_space, workspace_of}
 use Rattle.wm_state.proofs.Changing.{differ-changed}
 use Rattle.wm_model.specs.Lawful.{Each, Holds, IsSound, LawfulMark, LawfulSpace, LawfulState, staged_of}
-use Rattle.wm_model.specs.Step.{Answer, State, begin_resolve, commit, commit_resolve, decide, decide_on, decisions_of, parent_in, resolve_conflicts, resolved, resolving_fault, rollback_resolve, set_of, sides, unresolved_fault}
+use Rattle.wm_model.specs.Step.{Answer, State, begin_resolve, cells_of, claim_of, commit, commit_resolve, decide, decide_on, decisions_of, lock_fault, parent_in, resolve_conflicts, resolved, resolving_fault, rollback_resolve, set_of, sides, unresolved_fault}
 use Rattle.wm_model.specs.Step.Sessions as settings
 use Rattle.wm_model.proofs.Lawful.Deciding.{decisions_sound, entries_sound}
 use Rattle.wm_model.proofs.Lawful.Entries.{all_swapped, each_append, holds_appended}
@@ -107,7 +108,8 @@ leaves_commit session (d ∷ ds) w s l found each =
     let es = entries_decided s.moment session.user (d ∷ ds) in
     let ms = marks_of (w.next_place - 1) (d ∷ ds) in
     let t = leaves_resolved w es ms s Fine l found (entries_sound l.durable.entries.tells s.durable.next_stamp s.moment session.user (d ∷ ds) each) in
-    leaves_durably s (length w.lists.log + length es) _ l (leaves_ended session (record s { durable = record s.durable { spaces = with_space w.number (resolved es ms) s.durable.spaces } }) t.lawful)
+    leaves_unless (lock_fault (outline s) (claim_of session w.number) (map cells_of es)) s _ l
+    (leaves_durably s (length w.lists.log + length es) _ l (leaves_ended session (record s { durable = record s.durable { spaces = with_space w.number (resolved es ms) s.durable.spaces } }) t.lawful))
 
 -- the session is one of the state's
 pub leaves_commit_resolve : (session : Session) (name : List ℕ) (s : State) → LawfulState s → (test : Session → Bool) → find test s.sessions ≡ Some session → Leaves (commit_resolve session name s)

@@ -11,6 +11,7 @@ use Rattle.wm_base.specs.declared.row.Row.{Row}
 use Rattle.wm_syntax.specs.declared.statement.Arg.{Arg}
 use Rattle.wm_syntax.specs.declared.statement.CreateItem.{CreateItem}
 use Rattle.wm_base.specs.declared.value.Value.{Value}
+use Rattle.wm_calls.specs.Faults.{argument_fault}
 use Rattle.wm_calls.specs.Later.{is_later}
 use Rattle.wm_dml.specs.Changing.{added, chosen, gone, replacing, row_key, rows_fault, sets_period, updated_rows}
 use Rattle.wm_dml.specs.Moving.{moves_of, moving}
@@ -21,6 +22,7 @@ use Rattle.wm_grammar.specs.Calls.{procedure_of}
 use Rattle.wm_grammar.specs.Parsed.{Bad, Syntax, Literal, parsed}
 use Rattle.wm_grammar.specs.declared.procedure.Procedure.{Procedure}
 use Rattle.wm_grammar.specs.declared.procedure.Procedure.TheVariants as procedures
+use Rattle.wm_grammar.specs.declared.procedure.Parameter.TheVariants as parameters
 use Rattle.wm_making.proofs.Filled.{row_filled}
 use Rattle.wm_making.specs.Inserting.{insert_fault}
 use Rattle.wm_making.specs.Rows.{row_of, row_fault}
@@ -29,9 +31,10 @@ use Rattle.wm_model.specs.Entered.{entries_of}
 use Rattle.wm_model.specs.Lawful.{IsPlace, IsSound, LawfulState, is_full_row}
 use Rattle.wm_model.specs.Lines.{fits_line}
 use Rattle.wm_model.specs.Step.Sessions as settings
-use Rattle.wm_model.specs.Step.{Answer, State, add_found, add_to, altered, at_newest, bear, born, call, call_with, commit_resolve, connect, create, create_savepoint, create_workspace, delete, disconnect, durably, enable, first_clash, frozen_fault, goto_savepoint, home_of, goto_workspace, implicit_name, insert, key_there, latest, lost_source, move_all, new_period, no_savepoint, no_table, no_text, replace_all, rows_in, run_for, run_line, run_parsed, run_statement, save, saved_at, select, select_from, select_ready, session_of, set_conflict_workspace, set_moment, set_valid_time, statement_done, step, table_off, tables_of, taken, timed_line, told_period, too_long_line, update, versioning, with_rows, within, write_all, write_ascending}
+use Rattle.wm_model.specs.Step.{Answer, Asking, State, add_found, add_to, altered, at_newest, bear, born, call, call_with, cells_of, claim_of, commit_resolve, connect, create, create_savepoint, create_workspace, delete, disconnect, durably, enable, first_clash, frozen_fault, goto_savepoint, home_of, goto_workspace, implicit_name, insert, key_there, latest, line_work, lock_fault, lost_source, mode_given, move_all, new_period, no_savepoint, no_table, no_text, parts_locked, replace_all, rows_in, rows_meant, run_for, run_line, run_parsed, run_statement, save, saved_at, select, select_from, select_ready, session_of, set_conflict_workspace, set_moment, set_valid_time, statement_done, step, table_off, tables_of, taken, timed_line, told_period, too_long_line, update, versioning, with_rows, within, write_all, write_ascending, written_all}
 use Rattle.wm_model.proofs.Lawful.Freezing.{leaves_freeze, leaves_unfreeze}
-use Rattle.wm_model.proofs.Lawful.Leaves.{Leaves, leaves_barred, leaves_born, leaves_conflict, leaves_durably, leaves_gone, leaves_if, leaves_period, leaves_saved, leaves_seated, leaves_tables, leaves_unless, leaves_with_named, leaves_written, leaving, live_place, seats_filter, seats_push, stays}
+use Rattle.wm_model.proofs.Lawful.Leaves.{Leaves, leaves_barred, leaves_born, leaves_conflict, leaves_durably, leaves_durably_by, leaves_gone, leaves_if, leaves_period, leaves_saved, leaves_seated, leaves_tables, leaves_unless, leaves_with_named, leaves_written, leaving, live_place, seats_filter, seats_push, stays}
+use Rattle.wm_model.proofs.Lawful.Locking.{leaves_lock_rows, leaves_locked, leaves_set_locking, leaves_unlock_rows}
 use Rattle.wm_model.proofs.Lawful.Places.{home_found, place_of}
 use Rattle.wm_model.proofs.Lawful.Rows.{are_full, chosen_full, content_full, entries_written, gone_full, is_full_change, keyed_row, moving_full, replacing_full, rows_full, updated_full}
 use Rattle.wm_model.proofs.Lawful.Merging.{leaves_merge_workspace, leaves_refresh_workspace}
@@ -47,9 +50,9 @@ use Rattle.wm_state.specs.State.{Readiness, Savepoint, Session, Stand, Latest, A
 
 -- ---- sessions and the moment
 
-leaves_opened : (name user : List ℕ) (s : State) → LawfulState s → Leaves (record s { sessions = s.sessions ++ record { name = name; user = user; space = 0; stand = Latest; period = None; conflict = None; resolve = None; freezes = [] } ∷ [] }, Fine)
+leaves_opened : (name user : List ℕ) (s : State) → LawfulState s → Leaves (record s { sessions = s.sessions ++ record { name = name; user = user; space = 0; stand = Latest; period = None; conflict = None; resolve = None; freezes = []; locking = None } ∷ [] }, Fine)
 leaves_opened name user s l =
-    let x : Session = record { name = name; user = user; space = 0; stand = Latest; period = None; conflict = None; resolve = None; freezes = [] } in
+    let x : Session = record { name = name; user = user; space = 0; stand = Latest; period = None; conflict = None; resolve = None; freezes = []; locking = None } in
     leaves_seated s (s.sessions ++ x ∷ []) Fine l (seats_push s.durable.spaces s.sessions x l.seats (live_place s.durable.spaces l.durable.spaces.live))
     (staged_push (IsSound l.durable.entries.tells s.durable.next_stamp) s.sessions x l.durable.entries.staged tt)
 
@@ -108,53 +111,57 @@ leaves_at_newest : (session : Session) (name : List ℕ) (fault : Table → Opti
 leaves_at_newest session name fault empty act s l p a =
     let found : workspace_of s.durable.spaces session.space ≡ Some (home_of s session) = home_found s session p in search leaving depth 14
 
-writes_all : (user : List ℕ) (table : Table) (count : ℕ) (changes : List RowChange) → list_all is_full_change changes ≡ true → Writes (write_all user table count changes)
-writes_all user table count [] full s w l found = stays s _ l
-writes_all user table count (x ∷ xs) full s w l found =
-    leaves_if (not (nat_le (s.durable.next_stamp + length (x ∷ xs)) (s.durable.limit + 1))) _ _ (stays s _ l)
-    (leaves_durably s (length w.lists.log + length (x ∷ xs)) _ l
-    (leaves_written w (entries_of s user table (x ∷ xs)) s (Done count) l found (entries_written s.durable.next_stamp s.moment user table (x ∷ xs) full)))
+writes_all : (session : Session) (table : Table) (count : ℕ) (changes : List RowChange) → list_all is_full_change changes ≡ true → Writes (write_all session table count changes)
+writes_all session table count [] full s w l found = stays s _ l
+writes_all session table count (x ∷ xs) full s w l found =
+    let es = entries_of s session.user table (x ∷ xs) in
+    let parts = parts_locked (outline s) session w.number (map cells_of es) in
+    leaves_unless (lock_fault (outline s) (claim_of session w.number) (map cells_of es)) s _ l
+    (leaves_if (not (nat_le (s.durable.next_stamp + length (x ∷ xs)) (s.durable.limit + 1))) _ _ (stays s _ l)
+    (leaves_durably_by (length parts + line_work) s (length w.lists.log + length (x ∷ xs)) _ l
+    (leaves_locked session w.number parts (written_all w.number es s.durable) s (Done count)
+    (leaves_written w es s (Done count) l found (entries_written s.durable.next_stamp s.moment session.user table (x ∷ xs) full)))))
 
-writes_add : (user : List ℕ) (table : Table) (period : Span) (row : List Value) → list_all is_full_change (added table period row ∷ []) ≡ true → Writes (add_to user table period row)
-writes_add user table period row full s w l found = by_shared (taken (content w) table (row_key table row) period)
+writes_add : (session : Session) (table : Table) (period : Span) (row : List Value) → list_all is_full_change (added table period row ∷ []) ≡ true → Writes (add_to session table period row)
+writes_add session table period row full s w l found = by_shared (taken (content w) table (row_key table row) period)
   where
-    by_shared : (o : Option Span) → Leaves (elim o as (λ _. State × Answer) [ None ↦ write_all user table 1 (added table period row ∷ []) s w | Some shared ↦ (s, key_there (row_key table row) (told_period table shared)) ])
-    by_shared None = writes_all user table 1 (added table period row ∷ []) full s w l found
+    by_shared : (o : Option Span) → Leaves (elim o as (λ _. State × Answer) [ None ↦ write_all session table 1 (added table period row ∷ []) s w | Some shared ↦ (s, key_there (row_key table row) (told_period table shared)) ])
+    by_shared None = writes_all session table 1 (added table period row ∷ []) full s w l found
     by_shared (Some shared) = stays s _ l
 
-writes_found : (user : List ℕ) (table : Table) (period : Span) (names : Option (List (List ℕ))) (values : List Expr) → Writes (add_found user table period (row_of table names values))
-writes_found user table period names values s w l found = by_row (row_of table names values) refl
+writes_found : (session : Session) (table : Table) (period : Span) (names : Option (List (List ℕ))) (values : List Expr) → Writes (add_found session table period (row_of table names values))
+writes_found session table period names values s w l found = by_row (row_of table names values) refl
   where
-    by_row : (o : Option (List Value)) → row_of table names values ≡ o → Leaves (add_found user table period o s w)
+    by_row : (o : Option (List Value)) → row_of table names values ≡ o → Leaves (add_found session table period o s w)
     by_row None is = stays s _ l
-    by_row (Some row) is = leaves_unless (row_fault table row) s _ l (writes_add user table period row (and_from _ true (keyed_row table row (row_filled table names values row is)) refl) s w l found)
+    by_row (Some row) is = leaves_unless (row_fault table row) s _ l (writes_add session table period row (and_from _ true (keyed_row table row (row_filled table names values row is)) refl) s w l found)
 
 leaves_insert : (session : Session) (name : List ℕ) (names : Option (List (List ℕ))) (values : List Expr) (empty : Bool) (s : State) → LawfulState s → IsHere s session → Leaves (insert session name names values empty s)
 leaves_insert session name names values empty s l p =
-    leaves_at_newest session name (λ table. insert_fault table names values) empty (λ table. add_found session.user table (new_period session table names values) (row_of table names values)) s l p
-    (λ table. writes_found session.user table (new_period session table names values) names values)
+    leaves_at_newest session name (λ table. insert_fault table names values) empty (λ table. add_found session table (new_period session table names values) (row_of table names values)) s l p
+    (λ table. writes_found session table (new_period session table names values) names values)
 
-writes_ascending : (user : List ℕ) (table : Table) (count : ℕ) (changes : List RowChange) → list_all is_full_change changes ≡ true → Writes (write_ascending user table count changes)
-writes_ascending user table count changes full s w l found = leaves_if (are_sorted (change_keys changes)) _ _ (writes_all user table count changes full s w l found) (stays s _ l)
+writes_ascending : (session : Session) (table : Table) (count : ℕ) (changes : List RowChange) → list_all is_full_change changes ≡ true → Writes (write_ascending session table count changes)
+writes_ascending session table count changes full s w l found = leaves_if (are_sorted (change_keys changes)) _ _ (writes_all session table count changes full s w l found) (stays s _ l)
 
-writes_move : (user : List ℕ) (table : Table) (moves : List Move) → list_all is_full_change (moving moves) ≡ true → Writes (move_all user table moves)
-writes_move user table moves full s w l found = by_clash (first_clash (content w) table moves moves)
+writes_move : (session : Session) (table : Table) (moves : List Move) → list_all is_full_change (moving moves) ≡ true → Writes (move_all session table moves)
+writes_move session table moves full s w l found = by_clash (first_clash (content w) table moves moves)
   where
-    by_clash : (o : Option (List Value × Span)) → Leaves (elim o as (λ _. State × Answer) [ None ↦ write_ascending user table (length moves) (moving moves) s w | Some clash ↦ (s, key_there clash.0 (Some clash.1)) ])
-    by_clash None = writes_ascending user table (length moves) (moving moves) full s w l found
+    by_clash : (o : Option (List Value × Span)) → Leaves (elim o as (λ _. State × Answer) [ None ↦ write_ascending session table (length moves) (moving moves) s w | Some clash ↦ (s, key_there clash.0 (Some clash.1)) ])
+    by_clash None = writes_ascending session table (length moves) (moving moves) full s w l found
     by_clash (Some clash) = stays s _ l
 
-writes_replace : (user : List ℕ) (table : Table) (period : Span) (sets : List Set) (rows : List Row) → list_all is_full_row rows ≡ true → Writes (replace_all user table period sets rows (updated_rows table sets rows))
-writes_replace user table period sets rows full s w l found = by_rows (updated_rows table sets rows) refl
+writes_replace : (session : Session) (table : Table) (period : Span) (sets : List Set) (rows : List Row) → list_all is_full_row rows ≡ true → Writes (replace_all session table period sets rows (updated_rows table sets rows))
+writes_replace session table period sets rows full s w l found = by_rows (updated_rows table sets rows) refl
   where
-    by_rows : (o : Option (List (List Value))) → updated_rows table sets rows ≡ o → Leaves (replace_all user table period sets rows o s w)
+    by_rows : (o : Option (List (List Value))) → updated_rows table sets rows ≡ o → Leaves (replace_all session table period sets rows o s w)
     by_rows None is = stays s _ l
     by_rows (Some new) is =
         let filled : are_full new ≡ true = updated_full table sets rows new full is in
         leaves_unless (rows_fault table new) s _ l
         (leaves_if (sets_period table sets) _ _
-        (writes_move user table (moves_of table sets rows new) (moving_full table sets rows new filled) s w l found)
-        (writes_ascending user table (length rows) (replacing table period rows new) (replacing_full table period rows new filled) s w l found))
+        (writes_move session table (moves_of table sets rows new) (moving_full table sets rows new filled) s w l found)
+        (writes_ascending session table (length rows) (replacing table period rows new) (replacing_full table period rows new filled) s w l found))
 
 -- rows that a workspace shows, of which some are chosen
 writes_kept : (session : Session) (condition : Option Cond) (act : Table → Span → List Row → State → Workspace → State × Answer) (table : Table) → ((period : Span) (rows : List Row) → list_all is_full_row rows ≡ true → Writes (act table period rows))
@@ -166,21 +173,21 @@ writes_kept session condition act table a s w l found =
     a period (chosen table condition rows) full s w l found
 
 abbrev updates : Session → List Set → Table → Span → List Row → State → Workspace → State × Answer
-updates session sets table period rows = replace_all session.user table period sets rows (updated_rows table sets rows)
+updates session sets table period rows = replace_all session table period sets rows (updated_rows table sets rows)
 
 leaves_update : (session : Session) (name : List ℕ) (sets : List Set) (condition : Option Cond) (empty : Bool) (s : State) → LawfulState s → IsHere s session → Leaves (update session name sets condition empty s)
 leaves_update session name sets condition empty s l p =
     leaves_at_newest session name (λ table. update_fault table sets condition) empty (with_rows session (λ table period rows. updates session sets table period (chosen table condition rows))) s l p
-    (λ table. writes_kept session condition (updates session sets) table (λ period rows full. writes_replace session.user table period sets rows full))
+    (λ table. writes_kept session condition (updates session sets) table (λ period rows full. writes_replace session table period sets rows full))
 
 abbrev deletes : Session → Table → Span → List Row → State → Workspace → State × Answer
-deletes session table period rows = write_ascending session.user table (length rows) (map (gone table period) rows)
+deletes session table period rows = write_ascending session table (length rows) (map (gone table period) rows)
 
 leaves_delete : (session : Session) (name : List ℕ) (condition : Option Cond) (empty : Bool) (s : State) → LawfulState s → IsHere s session → Leaves (delete session name condition empty s)
 leaves_delete session name condition empty s l p =
     leaves_at_newest session name (λ table. delete_fault table condition) empty (with_rows session (λ table period rows. deletes session table period (chosen table condition rows))) s l p
     (λ table. writes_kept session condition (deletes session) table
-    (λ period rows full. writes_ascending session.user table (length rows) (map (gone table period) rows) (gone_full table period rows full)))
+    (λ period rows full. writes_ascending session table (length rows) (map (gone table period) rows) (gone_full table period rows full)))
 
 -- ---- savepoints and workspaces
 
@@ -255,6 +262,8 @@ leaves_call session (Some procedures.RefreshWorkspace) args s l p one = search (
 leaves_call session (Some procedures.MergeWorkspace) args s l p one = search (leaving, leaves_merge_workspace) depth 12
 leaves_call session (Some procedures.FreezeWorkspace) args s l p one = leaves_freeze session args s l
 leaves_call session (Some procedures.UnfreezeWorkspace) args s l p one = leaves_unfreeze args s l
+leaves_call session (Some procedures.SetLockingOn) args s l p one = leaves_set_locking session (argument_fault procedures.SetLockingOn args) (Some (mode_given procedures.SetLockingOn args parameters.LockMode)) s l
+leaves_call session (Some procedures.SetLockingOff) args s l p one = leaves_set_locking session (argument_fault procedures.SetLockingOff args) None s l
 leaves_call session (Some procedures.BeginResolve) args s l p one = search (leaving, leaves_begin_resolve) depth 12
 leaves_call session (Some procedures.CommitResolve) args s l p one = search (leaving, leaves_commits) depth 12
 leaves_call session (Some procedures.RollbackResolve) args s l p one = search (leaving, leaves_rollback_resolve) depth 12
@@ -262,6 +271,10 @@ leaves_call session _ args s l p one = stays s _ l
 
 leaves_call_with : (session : Session) (procedure : Option Procedure) (args : List Arg) (condition : Option Cond) (empty : Bool) (s : State) → LawfulState s → IsHere s session → IsOne s session → Leaves (call_with session procedure args condition empty s)
 leaves_call_with session (Some procedures.ResolveConflicts) args condition empty s l p one = search (leaving, leaves_resolve_conflicts) depth 12
+leaves_call_with session (Some procedures.LockRows) args condition empty s l p one =
+    let a : Asking = record { procedure = procedures.LockRows; args = args; condition = condition; empty = empty } in leaves_lock_rows session a (rows_meant session a s) s l
+leaves_call_with session (Some procedures.UnlockRows) args condition empty s l p one =
+    let a : Asking = record { procedure = procedures.UnlockRows; args = args; condition = condition; empty = empty } in leaves_unlock_rows session a s l
 leaves_call_with session procedure args condition empty s l p one = leaves_call session procedure args s l p one
 
 leaves_done : (session : Session) (statement : Statement) (s : State) → LawfulState s → IsHere s session → IsOne s session → Leaves (statement_done session statement s)

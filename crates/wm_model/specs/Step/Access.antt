@@ -54,6 +54,8 @@ asks_call procedures.BeginResolve = Named Manage
 asks_call procedures.ResolveConflicts = Named Manage
 asks_call procedures.CommitResolve = Named Manage
 asks_call procedures.RollbackResolve = Named Manage
+asks_call procedures.LockRows = Named Write
+asks_call procedures.UnlockRows = Named Write
 asks_call _ = Nothing
 
 -- what the workspace of a number, or of a name, is frozen for; where it is not there another refusal is told

@@ -2,14 +2,13 @@
 use Rattle.std.specs.Prelude.{ℕ, List, [], Bool, false, not, if◌then◌else◌, unwrap_or, Option, None, Some, codes}
 use Rattle.std.specs.Str.{bytes_eq}
 use Rattle.wm_base.specs.declared.instant.TheConstants.{END}
-use Rattle.std.specs.Option.{option_or}
 use Rattle.wm_syntax.specs.Trees.{Cond}
 use Rattle.wm_syntax.specs.declared.statement.Arg.{Arg}
 use Rattle.wm_grammar.specs.declared.procedure.Procedure.{Procedure}
 use Rattle.wm_grammar.specs.declared.procedure.Procedure.TheVariants as procedures
 use Rattle.wm_grammar.specs.declared.procedure.Parameter.TheVariants as parameters
 use Rattle.wm_calls.specs.Arguments.{text_given, moment_given, is_true_given}
-use Rattle.wm_calls.specs.Faults.{argument_fault, misfit_before}
+use Rattle.wm_calls.specs.Faults.{argument_fault}
 use Rattle.wm_calls.specs.Takes.{is_written}
 use Rattle.wm_decided.specs.declared.keep.Keep.{Keep}
 use Rattle.wm_decided.specs.declared.keep.Keep.TheVariants.{Parent, Child, Base}
@@ -19,7 +18,9 @@ use Rattle.wm_state.specs.State.{State, Session, Readiness}
 use Rattle.wm_print.specs.Texts.{Answer}
 use Rattle.wm_model.specs.Step.Refusing.{not_built, bad_name, mistyped, reserved_name, unless_mistyped}
 use Rattle.wm_model.specs.Step.Naming.{is_name, names_no_workspace, latest, names_no_savepoint}
+use Rattle.wm_model.specs.Step.Faulting.{fault_around}
 use Rattle.wm_model.specs.Step.Freezing.{freeze_plan, unfreeze_plan}
+use Rattle.wm_model.specs.Step.Locking.{Asking, lock_rows_plan, mode_given, rows_meant, set_locking_plan, unlock_rows_plan}
 use Rattle.wm_model.specs.Step.Plans.{run}
 use Rattle.wm_model.specs.Step.Tables.{enable}
 use Rattle.wm_model.specs.Step.Periods.{set_valid_time}
@@ -69,11 +70,6 @@ keep_in word = if is_written word (codes "PARENT") then Parent else (if is_writt
 abbrev pub keep_given : List Arg → Keep
 keep_given args = keep_in (unwrap_or (text_given procedures.ResolveConflicts args parameters.Keep) [])
 
--- what is wrong with the arguments of a call with a condition, by what is of a wrong type first in that: an argument before it that does not
--- fit comes first, then the condition, then what is behind it and what is missing
-abbrev pub fault_around : Procedure → List Arg → Option (List ℕ) → Option (List ℕ)
-fault_around procedure args inside = option_or (misfit_before procedure parameters.WhereClause args) (option_or inside (argument_fault procedure args))
-
 -- a call without a condition, by the arguments for its parameters and what is wrong with them
 abbrev pub call : Session → Option Procedure → List Arg → State → State × Answer
 call session (Some procedures.EnableVersioning) args s =
@@ -116,6 +112,9 @@ call session (Some procedures.MergeWorkspace) args s =
     unless_mistyped fault s (merge_workspace session (merge_asked args) (unwrap_or (text_given procedures.MergeWorkspace args parameters.Workspace) []) s)
 call session (Some procedures.FreezeWorkspace) args s = run (freeze_plan session args (outline s)) s
 call session (Some procedures.UnfreezeWorkspace) args s = run (unfreeze_plan args (outline s)) s
+call session (Some procedures.SetLockingOn) args s =
+    run (set_locking_plan session (argument_fault procedures.SetLockingOn args) (Some (mode_given procedures.SetLockingOn args parameters.LockMode))) s
+call session (Some procedures.SetLockingOff) args s = run (set_locking_plan session (argument_fault procedures.SetLockingOff args) None) s
 call session (Some procedures.BeginResolve) args s =
     let fault = argument_fault procedures.BeginResolve args in
     unless_mistyped fault s (begin_resolve session (unwrap_or (text_given procedures.BeginResolve args parameters.Workspace) []) s)
@@ -134,4 +133,10 @@ call_with session (Some procedures.ResolveConflicts) args condition empty s =
     (λ name.
     resolve_conflicts session (unwrap_or (text_given procedures.ResolveConflicts args parameters.Workspace) []) (folded name) condition (keep_given args)
     (fault_around procedures.ResolveConflicts args) empty s)
+call_with session (Some procedures.LockRows) args condition empty s =
+    let a : Asking = record { procedure = procedures.LockRows; args = args; condition = condition; empty = empty } in
+    run (lock_rows_plan session a (rows_meant session a s) (outline s)) s
+call_with session (Some procedures.UnlockRows) args condition empty s =
+    let a : Asking = record { procedure = procedures.UnlockRows; args = args; condition = condition; empty = empty } in
+    run (unlock_rows_plan session a (outline s)) s
 call_with session procedure args condition empty s = call session procedure args s

@@ -11,13 +11,15 @@ use Rattle.wm_spec.specs.declared.record.table.Table.{Table}
 use Rattle.wm_state.specs.State.{Durable, State, Session, Workspace, savepoint_named, with_entries, with_gained, with_space}
 use Rattle.wm_state.specs.Editing.{implicit_name, kept_in, number_limit, rebased, unlocked_of, without}
 pub use Rattle.wm_telling.specs.Sides.{sides}
+use Rattle.wm_outline.specs.Outline.{outline}
 use Rattle.wm_print.specs.Texts.{Answer, Fine}
 use Rattle.wm_model.specs.Seating.{thawed}
 use Rattle.wm_model.specs.Step.Refusing.{at_its_end, first_fault, has_child, in_conflict, most_savepoints, no_parent, refused_for, refused_if, savepoint_there, session_inside, unless}
 use Rattle.wm_model.specs.Step.Counting.{durably}
+use Rattle.wm_model.specs.Step.Locks.{Claim, cells_of, has_locks, lock_fault}
+use Rattle.wm_model.specs.Step.Periods.{told_period}
 pub use Rattle.wm_model.specs.Step.Naming.{parent_in}
 use Rattle.wm_model.specs.Step.Naming.{with_named}
-use Rattle.wm_model.specs.Step.Rows.{told_period}
 use Rattle.wm_model.specs.Step.Undoing.{first_name, first_session, is_child, resolving_fault, stands_in}
 
 -- ---- a workspace beside its parent
@@ -100,13 +102,21 @@ keeping_faults keeps p =
     ∷ refused_if (keeps && nat_lt number_limit (p.next_implicit + 1)) (at_its_end (codes "ICP"))
     ∷ []
 
+-- the merge changes in the parent what the workspace has of its own; the locks of the workspace itself do not bar it
+abbrev pub merge_claim : Session → Workspace → Workspace → Claim
+merge_claim session p w = record { space = p.number; user = session.user; except = Some w.number }
+
+abbrev pub merge_lock_fault : Session → State → Workspace → Workspace → Option Refusal
+merge_lock_fault session s p w = lock_fault (outline s) (merge_claim session p w) (map cells_of (net s.moment session.user w.lists.own))
+
 -- what MergeWorkspace is refused for
-abbrev pub merging_faults : Asked → State → Workspace → Workspace → List (Option Refusal)
-merging_faults asked s p w =
+abbrev pub merging_faults : Session → Asked → State → Workspace → Workspace → List (Option Refusal)
+merging_faults session asked s p w =
     refused_if (asked.keeps && is_some (savepoint_named (implicit_name p) p.savepoints)) (savepoint_there (implicit_name p))
     ∷ first_fault (leaving_faults asked.removes s w)
     ∷ resolving_fault s w
     ∷ conflict_fault s p w
+    ∷ merge_lock_fault session s p w
     ∷ first_fault (keeping_faults asked.keeps p)
     ∷ refused_if (not (is_even p w) && nat_lt number_limit (w.rebases + 1)) (at_its_end (codes "REBASE"))
     ∷ []
@@ -119,13 +129,13 @@ merged own es p w d = record d { spaces = with_space w.number (λ v. rebased tru
 abbrev pub merged_with : List Entry → List Entry → Workspace → Workspace → Durable → Durable
 merged_with own es p w d = if is_even p w then d else merged own es p w d
 
--- what was asked for besides comes before and behind
+-- what was asked for besides comes before and behind; the locks of the workspace go
 abbrev pub merged_as : Asked → ℕ → List ℕ → Workspace → Workspace → Durable → Durable
 merged_as asked moment user p w d =
     let own = net moment user w.lists.own in
     let es = gained_of moment user p w in
     let e = merged_with own es p w (if asked.keeps then kept_in moment p.number d else d) in
-    if asked.removes then record e { spaces = without w.number e.spaces; locks = unlocked_of w.number e.locks } else e
+    record e { spaces = if asked.removes then without w.number e.spaces else e.spaces; locks = unlocked_of w.number e.locks }
 
 -- the length of the longer of both logs
 abbrev pub longer_log : ℕ → List ℕ → Workspace → Workspace → ℕ
@@ -137,7 +147,7 @@ freed_by asked w sessions = if asked.removes then map (thawed w.number) sessions
 
 abbrev pub merge : Session → Asked → Workspace → Workspace → State → State × Answer
 merge session asked p w s =
-    if is_even p w && not (asked.keeps || asked.removes) then (s, Fine) else
+    if is_even p w && not (has_locks w.number s.durable.locks || (asked.keeps || asked.removes)) then (s, Fine) else
     durably s (longer_log s.moment session.user p w)
     (record s { durable = merged_as asked s.moment session.user p w s.durable; sessions = freed_by asked w s.sessions }, Fine)
 
@@ -146,4 +156,4 @@ abbrev pub merge_workspace : Session → Asked → List ℕ → State → State 
 merge_workspace session asked name s = with_named s name (λ w. if w.number == 0 then (s, no_parent name) else to (parent_in s w) w)
   where
     to : Workspace → Workspace → State × Answer
-    to p w = unless (first_fault (merging_faults asked s p w)) s (merge session asked p w s)
+    to p w = unless (first_fault (merging_faults session asked s p w)) s (merge session asked p w s)

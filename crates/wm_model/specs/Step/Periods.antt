@@ -14,6 +14,10 @@ use Rattle.wm_model.specs.Step.Sessions.{altered}
 abbrev pub within : ℕ → Session → Table → Span
 within moment session table = if table.valid then unwrap_or session.period (record { from = moment; till = END }) else always
 
+-- a period that is told, which is one of a table with valid time
+abbrev pub told_period : Table → Span → Option Span
+told_period table period = if table.valid then Some period else None
+
 -- SetValidTime sets the period, or sets none
 abbrev pub set_period : Session → Option Span → State → State × Answer
 set_period session period s = (record s { sessions = altered session.name (settings.Period period) s.sessions }, Fine)

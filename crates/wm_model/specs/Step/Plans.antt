@@ -1,17 +1,18 @@
 -- Plans: what a line is refused for, and what it makes and answers where nothing refuses it.
-use Rattle.std.specs.Prelude.{ℕ, ◌+◌, ◌==◌, nat_lt, Bool, false, if◌then◌else◌, List, [], ◌∷◌, ◌++◌, Option, None, Some, codes}
+use Rattle.std.specs.Prelude.{ℕ, ◌+◌, ◌==◌, nat_lt, Bool, false, if◌then◌else◌, List, [], ◌∷◌, ◌++◌, Option, None, Some, unwrap_or, codes}
 use Rattle.std.specs.List.{find}
 use Rattle.std.specs.Option.{option_map_or}
 use Rattle.std.specs.Str.{bytes_eq}
 use Rattle.wm_base.specs.declared.refusal.Refusal.{Refusal}
 use Rattle.wm_outline.specs.Outline.{Outline, SpaceOutline}
 use Rattle.wm_print.specs.Texts.{Answer, Fine, Refused}
+use Rattle.wm_spec.specs.declared.record.table.Table.{Table}
 use Rattle.wm_state.specs.Editing.{counter_limit, line_work}
 use Rattle.wm_state.specs.State.{State}
 use Rattle.wm_state.specs.declared.edit.Edit.{Edit}
 use Rattle.wm_model.specs.Seating.{Seating, Stay, planned}
 use Rattle.wm_model.specs.Step.Places.{least, place}
-use Rattle.wm_model.specs.Step.Refusing.{at_its_end, refusal_of, refused_if}
+use Rattle.wm_model.specs.Step.Refusing.{at_its_end, mistyped, refusal_of, refused_if}
 
 -- faults in any order
 pub record Plan : Type 0 where
@@ -58,12 +59,19 @@ refusing answer = record { faults = refusal_of answer ∷ []; edits = []; seatin
 abbrev pub also : List (Option Refusal) → Plan → Plan
 also faults p = record p { faults = faults ++ p.faults }
 
--- the work is at its end
+-- the work is at its end, for a line that makes so many locks
+abbrev pub is_spent_by : ℕ → Outline → Bool
+is_spent_by locks o = nat_lt counter_limit (o.work + (locks + line_work))
+
+abbrev pub spent_by : ℕ → Outline → Option Refusal
+spent_by locks o = refused_if (is_spent_by locks o) (at_its_end (codes "WORK"))
+
+-- for one that makes none
 abbrev pub is_spent : Outline → Bool
-is_spent o = nat_lt counter_limit (o.work + line_work)
+is_spent o = is_spent_by 0 o
 
 abbrev pub spent : Outline → Option Refusal
-spent o = refused_if (is_spent o) (at_its_end (codes "WORK"))
+spent o = spent_by 0 o
 
 abbrev pub space_named : List ℕ → Outline → Option SpaceOutline
 space_named name o = find (λ (x : SpaceOutline). bytes_eq name x.fields.name) o.spaces
@@ -75,6 +83,16 @@ space_numbered n o = find (λ (x : SpaceOutline). x.number == n) o.spaces
 abbrev pub for_named : Answer → (SpaceOutline → Plan) → Option SpaceOutline → Plan
 for_named lacks act None = refusing lacks
 for_named lacks act (Some x) = act x
+
+-- the plan with a text that is given for a parameter that the call requires; where it is not, something is wrong with the arguments
+abbrev pub for_text : Option (List ℕ) → Option (List ℕ) → (List ℕ → Plan) → Plan
+for_text None fault act = refusing (mistyped (unwrap_or fault []))
+for_text (Some text) fault act = act text
+
+-- the plan for the table of a name
+abbrev pub for_table : Answer → (Table → Plan) → Option Table → Plan
+for_table lacks act None = refusing lacks
+for_table lacks act (Some t) = act t
 
 -- ---- a refusal that many lines share
 

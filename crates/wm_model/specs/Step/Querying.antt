@@ -13,13 +13,14 @@ use Rattle.wm_base.specs.declared.row.Row.{Row}
 use Rattle.wm_syntax.specs.Trees.{Query, Src}
 use Rattle.wm_select.specs.Query.{answer_of, row_limit}
 use Rattle.wm_query_faults.specs.Asking.{query_fault}
-use Rattle.wm_state.specs.State.{State, Session, Workspace, seen_from, table_named, workspace_named}
+use Rattle.wm_state.specs.State.{State, Session, Workspace, seen_from, table_named, workspace_named, workspace_of}
 use Rattle.wm_state.specs.Listing.{row_shown}
 use Rattle.wm_view_rows.specs.declared.view.View.{View}
 use Rattle.wm_view_rows.specs.declared.view.View.TheVariants as views
 use Rattle.wm_view_rows.specs.Columns.{columns_of_view}
 use Rattle.wm_view_rows.specs.Conflicts.{conflict_view}
 use Rattle.wm_view_rows.specs.History.{history_view}
+use Rattle.wm_view_rows.specs.Locks.{lock_view}
 use Rattle.wm_view_rows.specs.Views.{is_conflicts, is_history, table_sought, view_named}
 use Rattle.wm_print.specs.Texts.{Answer, Listing}
 use Rattle.wm_model.specs.Step.Refusing.{first_fault, no_history, no_table, no_workspace, versioning, most_rows, out_of_range, refused_for, unless, unless_empty_period}
@@ -97,11 +98,16 @@ conflicting spaces (Some name) home = unwrap_or (workspace_named name spaces) ho
 abbrev pub conflicts_shown : State → Workspace → Table → List Row
 conflicts_shown s w t = if w.number == 0 then [] else conflict_view (parent_in s w) w t
 
+-- the name of the workspace of a number, which is there in each state that lines lead to
+abbrev pub space_name : State → ℕ → List ℕ
+space_name s n = option_map_or (λ (w : Workspace). w.name) (workspace_of s.durable.spaces n) []
+
 -- what a view of a table, or the table itself, shows a session that stands in a workspace
 abbrev pub view_shown : State → Session → Workspace → View → Table → List Row
 view_shown s session home views.Rows t = rows_in (within s.moment session t) (seen_from home session.stand) t
 view_shown s session home views.Conflicts t = conflicts_shown s (conflicting s.durable.spaces session.conflict home) t
 view_shown s session home views.History t = history_view home t
+view_shown s session home views.Locks t = lock_view (space_name s) t s.durable.locks
 
 -- what a source shows it
 abbrev pub shown_by : State → Session → Workspace → Src → Table → Source

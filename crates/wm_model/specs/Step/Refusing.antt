@@ -6,7 +6,7 @@ use Rattle.wm_base.specs.declared.refusal.Refusal.TheVariants.{Form, Limit}
 use Rattle.wm_base.specs.declared.refusal.Refusal.TheVariants as refusals
 use Rattle.wm_base.specs.declared.refusal.FormRefusal.TheVariants.{Wm001, Wm002, Wm003, Wm004, Wm005, Wm010, Wm011, Wm013, Wm015, Wm016, Wm018, Wm019}
 use Rattle.wm_base.specs.declared.refusal.SpaceRefusal.TheVariants.{Wm020, Wm021, Wm022, Wm023, Wm024, Wm025, Wm030, Wm031, Wm033, Wm040, Wm041, Wm042, Wm043, Wm044, Wm045, Wm046}
-use Rattle.wm_base.specs.declared.refusal.CellRefusal.TheVariants.{Wm051, Wm052, Wm053, Wm060, Wm064, Wm065}
+use Rattle.wm_base.specs.declared.refusal.CellRefusal.TheVariants.{Wm050, Wm051, Wm052, Wm053, Wm060, Wm064, Wm065}
 use Rattle.wm_base.specs.declared.refusal.LimitRefusal.TheVariants.{Wm070, Wm071, Wm072, Wm073, Wm074, Wm075, Wm076, Wm099}
 use Rattle.wm_base.specs.declared.refusal.Refusal.{Refusal}
 use Rattle.wm_state.specs.State.{State}
@@ -123,6 +123,10 @@ key_there key period = Refused (refusals.Cell (Wm060 key period))
 -- a workspace and its parent both changed a key of a table, in a table with valid time in this period
 abbrev pub in_conflict : List ℕ → List Value → Option Span → Answer
 in_conflict table key period = Refused (refusals.Cell (Wm051 table key period))
+
+-- a lock of a user, in a workspace and a mode, keeps the line from a key, in a table with valid time in this period
+abbrev pub locked : (workspace user mode : List ℕ) → List Value → Option Span → Answer
+locked workspace user mode key period = Refused (refusals.Cell (Wm050 workspace user mode key period))
 
 -- a session has a resolve of the workspace open
 abbrev pub resolve_open : List ℕ → List ℕ → Answer

@@ -1,24 +1,24 @@
 -- BeginResolve, ResolveConflicts, CommitResolve and RollbackResolve.
-use Rattle.std.specs.Prelude.{ℕ, ◌+◌, ◌-◌, ◌==◌, ◌&&◌, nat_lt, Bool, true, false, not, if◌then◌else◌, List, [], ◌∷◌, ◌++◌, length, Option, None}
-use Rattle.std.specs.Option.{option_map, option_map_or}
+use Rattle.std.specs.Prelude.{ℕ, ◌+◌, ◌-◌, ◌==◌, ◌&&◌, nat_lt, Bool, true, false, not, if◌then◌else◌, List, [], ◌∷◌, ◌++◌, length, map, Option, None}
+use Rattle.std.specs.Option.{option_map_or}
 use Rattle.wm_syntax.specs.Trees.{Cond}
-use Rattle.wm_base.specs.declared.refusal.FormRefusal.TheVariants.{Wm012}
 use Rattle.wm_base.specs.declared.refusal.Refusal.{Refusal}
-use Rattle.wm_base.specs.declared.refusal.Refusal.TheVariants.{Form}
 use Rattle.wm_decided.specs.Deciding.{decisions_in}
 use Rattle.wm_decided.specs.Keys.{columns_of_keys, meets_key}
 use Rattle.wm_decided.specs.Netted.{entries_decided, marks_of}
 use Rattle.wm_decided.specs.declared.keep.Keep.{Keep}
 use Rattle.wm_net.specs.Conflicts.{Settled}
+use Rattle.wm_outline.specs.Outline.{outline}
 use Rattle.wm_print.specs.Texts.{Answer, Fine, Done}
 use Rattle.wm_spec.specs.Lists.{Entry}
 use Rattle.wm_spec.specs.declared.record.table.Table.{Table}
 use Rattle.wm_state.specs.State.{State, Session, Workspace, Resolve, Decision, with_entries, with_space}
 use Rattle.wm_telling.specs.Sides.{sides}
-use Rattle.wm_typing.specs.Names.{unknown_in_filter}
 use Rattle.wm_typing.specs.Types.{mistyped_in_filter}
 use Rattle.wm_model.specs.Step.Refusing.{no_parent, no_resolve, refused_if, unless, unless_empty_period, unless_mistyped, versioning}
 use Rattle.wm_model.specs.Step.Counting.{durably}
+use Rattle.wm_model.specs.Step.Faulting.{unkeyed_fault}
+use Rattle.wm_model.specs.Step.Locks.{cells_of, claim_of, lock_fault}
 use Rattle.wm_model.specs.Step.Naming.{parent_in, with_named, with_table}
 use Rattle.wm_model.specs.Step.Sessions.{altered}
 use Rattle.wm_model.specs.Step.Sessions as settings
@@ -57,10 +57,6 @@ decide session (d ∷ ds) s = (set_of session (settings.Decide (d ∷ ds)) s, Do
 abbrev pub decide_on : Session → Table → Option Cond → Keep → State → Workspace → State × Answer
 decide_on session table condition keep s w = decide session (decisions_in keep (sides (parent_in s w) w) table.number (meets_key table condition)) s
 
--- the first name in a condition that is none of a key column
-abbrev pub unkeyed_fault : Table → Option Cond → Option Refusal
-unkeyed_fault table condition = option_map (λ (name : List ℕ). Form (Wm012 name)) (unknown_in_filter (columns_of_keys table) condition)
-
 -- ResolveConflicts decides which side of conflicts stands; `fault` tells what is wrong with the arguments, by what is of a wrong type first in
 -- the condition
 abbrev pub resolve_conflicts : Session → List ℕ → List ℕ → Option Cond → Keep → (Option (List ℕ) → Option (List ℕ)) → Bool → State → State × Answer
@@ -77,14 +73,15 @@ resolve_conflicts session workspace name condition keep fault empty s =
 abbrev pub resolved : List Entry → List Settled → Workspace → Workspace
 resolved es ms w = record (with_entries es w) { settled = w.settled ++ ms }
 
--- the decisions of a resolve become changes and marks of its workspace, if there are any, and the resolve is closed
+-- the decisions of a resolve become changes and marks of its workspace, if there are any and no lock bars them, and the resolve is closed
 abbrev pub commit : Session → List Decision → Workspace → State → State × Answer
 commit session [] w s = (set_of session settings.End s, Fine)
 commit session (d ∷ ds) w s =
     let es = entries_decided s.moment session.user (d ∷ ds) in
     let ms = marks_of (w.next_place - 1) (d ∷ ds) in
-    durably s (length w.lists.log + length es)
-    (record (set_of session settings.End s) { durable = record s.durable { spaces = with_space w.number (resolved es ms) s.durable.spaces } }, Fine)
+    unless (lock_fault (outline s) (claim_of session w.number) (map cells_of es)) s
+    (durably s (length w.lists.log + length es)
+    (record (set_of session settings.End s) { durable = record s.durable { spaces = with_space w.number (resolved es ms) s.durable.spaces } }, Fine))
 
 -- the decisions that a session has made
 abbrev pub decisions_of : Session → List Decision

@@ -17,16 +17,18 @@ use Rattle.wm_dml.specs.declared.moving.Move.{Move}
 use Rattle.wm_making.specs.Inserting.{insert_fault}
 use Rattle.wm_making.specs.Rows.{period_given, row_of, row_fault}
 use Rattle.wm_model.specs.Entered.{entries_of}
+use Rattle.wm_outline.specs.Outline.{outline}
 use Rattle.wm_typing.specs.Changing.{update_fault, delete_fault}
 use Rattle.wm_state.specs.State.{State, Workspace, Session, Stand, Latest, At, content}
-use Rattle.wm_state.specs.Editing.{written_all}
+use Rattle.wm_state.specs.Editing.{line_work, written_all}
 use Rattle.wm_state.specs.Drawing.{are_sorted}
 use Rattle.wm_state.specs.Listing.{first_shared, span_on}
 use Rattle.wm_print.specs.Texts.{Answer, Done}
 use Rattle.wm_model.specs.Step.Refusing.{not_built, versioning, not_latest, key_there, change_limit, out_of_range, unless, unless_empty_period}
-use Rattle.wm_model.specs.Step.Counting.{durably}
+use Rattle.wm_model.specs.Step.Counting.{durably_by}
+use Rattle.wm_model.specs.Step.Locks.{cells_of, claim_of, lock_fault, locked_by, parts_locked}
 use Rattle.wm_model.specs.Step.Naming.{with_table, at_home}
-use Rattle.wm_model.specs.Step.Periods.{within}
+use Rattle.wm_model.specs.Step.Periods.{told_period, within}
 use Rattle.wm_model.specs.Step.Querying.{rows_in}
 
 -- ---- rows
@@ -44,13 +46,17 @@ at_newest session name fault empty act s = with_table s name (λ table.
     unless (fault table) s
     (at_home s session (λ w. at_latest s session.stand (unless_empty_period empty s (act table s w)))))
 
--- rows are changed, if there are any, while changes are left; told is how many rows are changed
-abbrev pub write_all : List ℕ → Table → ℕ → List RowChange → State → Workspace → State × Answer
-write_all user table count [] s w = (s, Done 0)
-write_all user table count (x ∷ xs) s w =
+-- rows are changed, if there are any, unless a lock bars it, while changes are left; told is how many rows are changed
+abbrev pub write_all : Session → Table → ℕ → List RowChange → State → Workspace → State × Answer
+write_all session table count [] s w = (s, Done 0)
+write_all session table count (x ∷ xs) s w =
     let changes = x ∷ xs in
-    if not (nat_le (s.durable.next_stamp + length changes) (s.durable.limit + 1)) then (s, change_limit s.durable.limit) else
-    durably s (length w.lists.log + length changes) (record s { durable = written_all w.number (entries_of s user table changes) s.durable }, Done count)
+    let es = entries_of s session.user table changes in
+    let parts = parts_locked (outline s) session w.number (map cells_of es) in
+    unless (lock_fault (outline s) (claim_of session w.number) (map cells_of es)) s
+    (if not (nat_le (s.durable.next_stamp + length changes) (s.durable.limit + 1)) then (s, change_limit s.durable.limit) else
+    durably_by (length parts + line_work) s (length w.lists.log + length changes)
+    (record s { durable = locked_by session w.number parts (written_all w.number es s.durable) }, Done count))
 
 -- ---- INSERT
 
@@ -62,34 +68,30 @@ new_period session table names values = if table.valid then unwrap_or (period_gi
 abbrev pub taken : List Entry → Table → List Value → Span → Option Span
 taken es table key period = first_shared period (rows_of_key es table.number key)
 
--- a period that is told, which is one of a table with valid time
-abbrev pub told_period : Table → Span → Option Span
-told_period table period = if table.valid then Some period else None
-
 -- a new row comes where no row of its key stands
-abbrev pub add_to : List ℕ → Table → Span → List Value → State → Workspace → State × Answer
-add_to user table period row s w = of (taken (content w) table (row_key table row) period)
+abbrev pub add_to : Session → Table → Span → List Value → State → Workspace → State × Answer
+add_to session table period row s w = of (taken (content w) table (row_key table row) period)
   where
     of : Option Span → State × Answer
     of (Some shared) = (s, key_there (row_key table row) (told_period table shared))
-    of None = write_all user table 1 (added table period row ∷ []) s w
+    of None = write_all session table 1 (added table period row ∷ []) s w
 
 -- a new row, unless a number on the way to it was out of range, or something is wrong with it
-abbrev pub add_found : List ℕ → Table → Span → Option (List Value) → State → Workspace → State × Answer
-add_found user table period None s w = (s, out_of_range)
-add_found user table period (Some row) s w = unless (row_fault table row) s (add_to user table period row s w)
+abbrev pub add_found : Session → Table → Span → Option (List Value) → State → Workspace → State × Answer
+add_found session table period None s w = (s, out_of_range)
+add_found session table period (Some row) s w = unless (row_fault table row) s (add_to session table period row s w)
 
 -- INSERT adds a row
 abbrev pub insert : Session → List ℕ → Option (List (List ℕ)) → List Expr → Bool → State → State × Answer
 insert session name names values empty =
     at_newest session name (λ table. insert_fault table names values) empty
-    (λ table. add_found session.user table (new_period session table names values) (row_of table names values))
+    (λ table. add_found session table (new_period session table names values) (row_of table names values))
 
 -- ---- UPDATE and DELETE
 
 -- rows are changed by key: no key is above the next
-abbrev pub write_ascending : List ℕ → Table → ℕ → List RowChange → State → Workspace → State × Answer
-write_ascending user table count changes s w = if are_sorted (change_keys changes) then write_all user table count changes s w else (s, not_built)
+abbrev pub write_ascending : Session → Table → ℕ → List RowChange → State → Workspace → State × Answer
+write_ascending session table count changes s w = if are_sorted (change_keys changes) then write_all session table count changes s w else (s, not_built)
 
 -- what is done with the rows of a table that a session sees, and the period in which it changes them
 abbrev pub with_rows : Session → (Table → Span → List Row → State → Workspace → State × Answer) → Table → State → Workspace → State × Answer
@@ -105,32 +107,32 @@ first_clash es table moves [] = None
 first_clash es table moves (m ∷ ms) = option_or (clash_at es table moves m) (first_clash es table moves ms)
 
 -- rows stand over new periods, where no other row of their keys stands
-abbrev pub move_all : List ℕ → Table → List Move → State → Workspace → State × Answer
-move_all user table moves s w = of (first_clash (content w) table moves moves)
+abbrev pub move_all : Session → Table → List Move → State → Workspace → State × Answer
+move_all session table moves s w = of (first_clash (content w) table moves moves)
   where
     of : Option (List Value × Span) → State × Answer
     of (Some clash) = (s, key_there clash.0 (Some clash.1))
-    of None = write_ascending user table (length moves) (moving moves) s w
+    of None = write_ascending session table (length moves) (moving moves) s w
 
 -- new rows take the places of others within the period, or stand over the new periods that the sets give them
-abbrev pub change_all : List ℕ → Table → Span → List Set → List Row → List (List Value) → State → Workspace → State × Answer
-change_all user table period sets rows new s w =
-    if sets_period table sets then move_all user table (moves_of table sets rows new) s w
-    else write_ascending user table (length rows) (replacing table period rows new) s w
+abbrev pub change_all : Session → Table → Span → List Set → List Row → List (List Value) → State → Workspace → State × Answer
+change_all session table period sets rows new s w =
+    if sets_period table sets then move_all session table (moves_of table sets rows new) s w
+    else write_ascending session table (length rows) (replacing table period rows new) s w
 
 -- so unless a number on the way to the new rows was out of range, or something is wrong with them
-abbrev pub replace_all : List ℕ → Table → Span → List Set → List Row → Option (List (List Value)) → State → Workspace → State × Answer
-replace_all user table period sets rows None s w = (s, out_of_range)
-replace_all user table period sets rows (Some new) s w = unless (rows_fault table new) s (change_all user table period sets rows new s w)
+abbrev pub replace_all : Session → Table → Span → List Set → List Row → Option (List (List Value)) → State → Workspace → State × Answer
+replace_all session table period sets rows None s w = (s, out_of_range)
+replace_all session table period sets rows (Some new) s w = unless (rows_fault table new) s (change_all session table period sets rows new s w)
 
 -- UPDATE writes a new row for each on which the condition is true
 abbrev pub update : Session → List ℕ → List Set → Option Cond → Bool → State → State × Answer
 update session name sets filter empty =
     at_newest session name (λ table. update_fault table sets filter) empty
-    (with_rows session (λ table period rows. let kept = chosen table filter rows in replace_all session.user table period sets kept (updated_rows table sets kept)))
+    (with_rows session (λ table period rows. let kept = chosen table filter rows in replace_all session table period sets kept (updated_rows table sets kept)))
 
 -- DELETE makes each of them gone
 abbrev pub delete : Session → List ℕ → Option Cond → Bool → State → State × Answer
 delete session name filter empty =
     at_newest session name (λ table. delete_fault table filter) empty
-    (with_rows session (λ table period rows. let kept = chosen table filter rows in write_ascending session.user table (length kept) (map (gone table period) kept)))
+    (with_rows session (λ table period rows. let kept = chosen table filter rows in write_ascending session table (length kept) (map (gone table period) kept)))
