@@ -107,6 +107,12 @@ pub for_one : (rs : List Stored) (xs : List Session) (m : ℕ) (r : Result Plann
 for_one rs xs m (Ok p) act other same does = does_one rs xs m p act other (λ s st. same s) (does xs m)
 for_one rs xs m (Err e) act other same does = tt
 
+-- so where the plan is for any records, sessions and moment
+pub for_any : (rs : List Stored) (xs : List Session) (m : ℕ) (r : Result Planned Memory) (act other : State → State × Answer) → ((s : State) → other s ≡ act s)
+    → IfOk r (λ p. (ss : List Stored) (ys : List Session) (n : ℕ) → DoesIt ss ys n p act) → IfOk r (λ p. DoesIt rs xs m p other)
+for_any rs xs m (Ok p) act other same does = does_one rs xs m p act other (λ s st. same s) (does rs xs m)
+for_any rs xs m (Err e) act other same does = tt
+
 pub for_moments : (rs : List Stored) (xs : List Session) (r : Result Planned Memory) (act other : State → State × Answer) → ((s : State) → other s ≡ act s)
     → IfOk r (λ p. (ys : List Session) (n : ℕ) → DoesIt rs ys n p act) → IfOk r (λ p. (n : ℕ) → DoesIt rs xs n p other)
 for_moments rs xs (Ok p) act other same does = λ n. does_one rs xs n p act other (λ s st. same s) (does xs n)

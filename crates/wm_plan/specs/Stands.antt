@@ -2,7 +2,7 @@
 use Rattle.wm_state.specs.State as state
 use Rattle.wm_model.specs.Step.Sessions as settings
 use Rattle.wm_plan.specs.declared.session.Setting.{Setting}
-use Rattle.wm_plan.specs.declared.session.Setting.TheVariants.{Stand as Standing, Period, Conflict, Begin, Decide, End, Freeze}
+use Rattle.wm_plan.specs.declared.session.Setting.TheVariants.{Stand as Standing, Period, Conflict, Begin, Decide, End, Freeze, Lock}
 use Rattle.wm_plan.specs.declared.session.Stand.{Stand}
 use Rattle.wm_plan.specs.declared.session.Stand.TheVariants.{Latest, At}
 
@@ -18,3 +18,4 @@ setting_view (Begin space) = settings.Begin space
 setting_view (Decide decisions) = settings.Decide decisions.items
 setting_view End = settings.End
 setting_view (Freeze space) = settings.Freeze space
+setting_view (Lock mode) = settings.Lock mode

@@ -1,8 +1,8 @@
 //! What is given of the arguments of a call, and what is wrong with them.
-ghost use Rattle.std.specs.Prelude.{◌≡◌, [], unwrap_or, IfOk};
+ghost use Rattle.std.specs.Prelude.{◌≡◌, [], unwrap_or, option_copied, IfOk};
 ghost use Rattle.wm_calls.specs.Arguments.{text_given};
 ghost use Rattle.wm_calls.specs.Faults.{argument_fault};
-ghost use Rattle.wm_model.specs.Step.{mistyped};
+ghost use Rattle.wm_model.specs.Step.{fault_around, mistyped};
 ghost use Rattle.wm_plan.specs.Views.{answer_view};
 ghost use Rattle.wm_plan.specs.declared.seating.Seating.TheVariants.{Stay};
 
@@ -10,7 +10,7 @@ use crate::planned::Planned;
 use crate::refuse::mistyped;
 use std::alloc::Global;
 use wm_base::{Memory, Name};
-use wm_calls::{argument_fault, parameter_name, text_given};
+use wm_calls::{argument_fault, misfit_before, parameter_name, text_given};
 use wm_grammar::{Parameter, Procedure};
 use wm_syntax::cond::Cond;
 use wm_syntax::statement::Arg;
@@ -30,6 +30,24 @@ pub fn fault_of(alloc: Global, procedure: Procedure, args: &[Arg]) -> Result<Opt
     match argument_fault(procedure, args) {
         Some(parameter) => Ok(Some(Name::copy_of(alloc, parameter_name(parameter))?)),
         None => Ok(None),
+    }
+}
+
+/// What is wrong with the arguments of a call with a condition, where this is of a wrong type first in the condition.
+pub fn fault_around(
+    alloc: Global,
+    procedure: Procedure,
+    args: &[Arg],
+    inside: Option<&[u8]>,
+) -> Result<Option<Name>, Memory>
+    ensures { IfOk result (λ fault. fault ≡ fault_around procedure args.now (option_copied inside.entry)) }
+{
+    if let Some(parameter) = misfit_before(procedure, Parameter::WhereClause, args) {
+        return Ok(Some(Name::copy_of(alloc, parameter_name(parameter))?));
+    }
+    match inside {
+        Some(mark) => Ok(Some(Name::copy_of(alloc, mark)?)),
+        None => fault_of(alloc, procedure, args),
     }
 }
 

@@ -1,7 +1,7 @@
 //! The refusals of lines.
 ghost use Rattle.std.specs.Prelude.{◌≡◌, IfOk};
 ghost use Rattle.wm_plan.specs.Views.{answer_view};
-ghost use Rattle.wm_model.specs.Step.{already_frozen, at_its_end, bad_literal, bad_name, change_limit, dependent_child, empty_period, frozen, has_child, in_conflict, key_there, long_name, mistyped, moment_back, most_rows, most_savepoints, most_sessions, most_tables, most_workspaces, no_history, no_key, no_parent, no_resolve, no_savepoint, no_session, no_table, no_workspace, no_text, not_built, not_frozen, not_latest, out_of_range, rebased_since, reserved_name, resolve_open, savepoint_there, session_inside, session_there, syntax, table_there, too_long_line, versioning, workspace_there};
+ghost use Rattle.wm_model.specs.Step.{already_frozen, at_its_end, bad_literal, bad_name, change_limit, dependent_child, empty_period, frozen, has_child, in_conflict, key_there, locked, long_name, mistyped, moment_back, most_rows, most_savepoints, most_sessions, most_tables, most_workspaces, no_history, no_key, no_parent, no_resolve, no_savepoint, no_session, no_table, no_workspace, no_text, not_built, not_frozen, not_latest, out_of_range, rebased_since, reserved_name, resolve_open, savepoint_there, session_inside, session_there, syntax, table_there, too_long_line, versioning, workspace_there};
 
 use crate::answer::Answer;
 use std::alloc::Global;
@@ -246,6 +246,14 @@ pub fn in_conflict(table: Name, key: Key, period: Option<Period>) -> Answer
     ensures { answer_view result ≡ in_conflict table key period }
 {
     Answer::Refused(Refusal::Cell(CellRefusal::Wm051(table, key, period)))
+}
+
+/// That a lock of a workspace, by its user and the word of its mode, bars a change of a key, in a table with valid time in
+/// this period.
+pub fn locked(workspace: Name, user: Name, mode: Name, key: Key, period: Option<Period>) -> Answer
+    ensures { answer_view result ≡ locked workspace user mode key period }
+{
+    Answer::Refused(Refusal::Cell(CellRefusal::Wm050(workspace, user, mode, key, period)))
 }
 
 /// That a session has a resolve of the workspace open.

@@ -13,6 +13,7 @@ use std::alloc::Global;
 use std::marker::Model;
 use wm_base::{Memory, Name, Period};
 use wm_decided::decision::{Decision, Resolve};
+use wm_spec::record::LockMode;
 
 /// Where a session stands in its workspace.
 #[derive(Clone, Copy)]
@@ -40,6 +41,8 @@ pub enum Setting {
     End,
     /// A workspace, by number, that it freezes for itself alone.
     Freeze(u32),
+    /// The mode in which its changes lock what they change, or that they do not.
+    Lock(Option<LockMode>),
 }
 
 /// Somebody who is connected, under the name that lines begin with.
@@ -58,6 +61,8 @@ pub struct Session {
     resolve: Option<Resolve>,
     /// The numbers of the workspaces that it froze for itself alone.
     freezes: Vec<u32>,
+    /// The mode in which its changes lock what they change, where they do.
+    locking: Option<LockMode>,
 }
 
 impl Model for Session {
@@ -68,18 +73,18 @@ impl Model for Session {
 
     ghost Value = { SessionState };
 
-    ghost view = { λ s. record { name = s.name; user = s.user; space = s.space; stand = stand_view s.stand; period = s.period; conflict = s.conflict; resolve = s.resolve; freezes = s.freezes.items } };
+    ghost view = { λ s. record { name = s.name; user = s.user; space = s.space; stand = stand_view s.stand; period = s.period; conflict = s.conflict; resolve = s.resolve; freezes = s.freezes.items; locking = s.locking } };
 
     ghost invariant = { λ s. is_short s.user ≡ true };
 }
 
 impl Session {
     /// A session of this name for this user, which stands in LIVE at what is newest, for which neither a period nor a
-    /// workspace of conflicts is set, and which has no resolve open and froze no workspace.
+    /// workspace of conflicts is set, and which has no resolve open, froze no workspace and locks nothing that it changes.
     pub fn new(alloc: Global, name: Name, user: Name) -> Session
         // An entry of a log has room for the user.
         requires { is_short user ≡ true }
-        ensures { result ≡ record { name = name; user = user; space = 0; stand = Latest; period = None; conflict = None; resolve = None; freezes = [] } }
+        ensures { result ≡ record { name = name; user = user; space = 0; stand = Latest; period = None; conflict = None; resolve = None; freezes = []; locking = None } }
     {
         Session {
             name,
@@ -90,6 +95,7 @@ impl Session {
             conflict: None,
             resolve: None,
             freezes: Vec::new(alloc),
+            locking: None,
         }
     }
 
@@ -132,6 +138,13 @@ impl Session {
         ensures { option_copied result ≡ self.now.resolve }
     {
         self.resolve.as_ref()
+    }
+
+    /// The mode in which its changes lock what they change, where they do.
+    pub fn locking(&self) -> Option<LockMode>
+        ensures { result ≡ self.now.locking }
+    {
+        self.locking
     }
 
     /// Whether it froze the workspace of a number for itself alone.
@@ -186,6 +199,7 @@ impl Session {
             Setting::Decide(decisions) => return self.decide(alloc, decisions.as_slice()),
             Setting::End => self.resolve = None,
             Setting::Freeze(space) => self.freezes.insert(0, *space)?,
+            Setting::Lock(mode) => self.locking = *mode,
         }
         Ok(())
     }

@@ -18,9 +18,17 @@ pub fn is_long(log_length: u64, entries: &[NewEntry]) -> bool
     log_length.saturating_add(entries.len() as u64) > LOG_LIMIT
 }
 
-/// Whether the work is at its end.
+/// Whether the work is at its end for a line that makes so many locks.
+pub fn is_spent_by(counters: &Counters, locks: u64) -> bool
+    ensures { result ≡ nat_lt counter_limit (counters.now.work + (locks + line_work)) }
+{
+    let line = locks.saturating_add(LINE_WORK);
+    counters.work.saturating_add(line) > WORK_LIMIT
+}
+
+/// Whether it is at its end for a line that makes none.
 pub fn is_spent(counters: &Counters) -> bool
     ensures { result ≡ nat_lt counter_limit (counters.now.work + line_work) }
 {
-    counters.work > WORK_LIMIT - LINE_WORK
+    is_spent_by(counters, 0)
 }

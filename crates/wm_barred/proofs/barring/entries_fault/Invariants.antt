@@ -1,0 +1,11 @@
+use Rattle.std.proofs.Common.{◌≡◌, map, drop}
+use Rattle.wm_graph.specs.Parts.{parts_of}
+use Rattle.wm_model.specs.Step.{cells_of, lock_fault}
+use Rattle.wm_state.specs.Drafts.{cells_locked}
+use Rattle.wm_state.specs.Editing.{entry_of}
+use Rattle.wm_barred.specs.Alone.{outline_alone}
+use Rattle.wm_barred.specs.Views.{claim_view}
+use Rattle.wm_barred.proofs.barring.entries_fault.Given as goal
+
+abbrev pub invariant-loop-entry : goal.invariant-loop-entry
+invariant-loop-entry l = lock_fault (outline_alone (parts_of l.image)) (claim_view l.claim) (map cells_of (map entry_of (drop l.entry-index l.entries))) ≡ lock_fault (outline_alone (parts_of l.image)) (claim_view l.claim) (map cells_of (map entry_of l.entries))
