@@ -107,6 +107,9 @@ fn call_fault(
             Some(space) => family_fault(alloc, ground, Class::Manage, session, space),
             None => Ok(None),
         },
+        Procedure::LockRows | Procedure::UnlockRows => {
+            named_fault(alloc, ground, Class::Write, session, name)
+        }
         Procedure::CreateSavepoint
         | Procedure::RollbackToSp
         | Procedure::RemoveWorkspace
