@@ -1,5 +1,5 @@
 -- What a plan that changes rows of a table does in the workspace that a session stands in.
-use Rattle.std.proofs.Common.{◌≡◌, ℕ, ◌+◌, nat_le, nat_lt, Bool, true, false, List, [], ◌∷◌, length, Option, Result, Ok, Err, IfOk, refl, sym, ap, ◌∙◌, codes, Vec, Global, vec_len, arith}
+use Rattle.std.proofs.Common.{◌≡◌, ℕ, Bool, true, false, List, [], ◌∷◌, length, Option, Result, Ok, Err, IfOk, refl, sym, ap, ◌∙◌, Vec, Global, vec_len, arith}
 use Rattle.std.proofs.lemmas.Bool.{true≢false}
 use Rattle.wm_base.specs.declared.memory.Memory.{Memory}
 use Rattle.wm_base.specs.declared.refusal.Refusal.{Refusal}
@@ -9,26 +9,22 @@ use Rattle.wm_dml.specs.declared.change.RowChange.{RowChange}
 use Rattle.wm_graph.specs.Parts.{parts_of}
 use Rattle.wm_graph.specs.Rules.{keep_rules}
 use Rattle.wm_print.specs.Texts.{Answer, Done}
-use Rattle.wm_spec.specs.declared.record.counters.Counters.{Counters}
 use Rattle.wm_spec.specs.declared.record.space.Space.{Space}
 use Rattle.wm_spec.specs.declared.record.stored.Stored.{Stored}
 use Rattle.wm_spec.specs.declared.record.table.Table.{Table}
-use Rattle.wm_state.proofs.Counting.{CountsAs}
 use Rattle.std.specs.List.{list_all}
 use Rattle.wm_model.specs.Lawful.{is_full_row}
 use Rattle.wm_state.specs.Drawing.{are_sorted}
 use Rattle.wm_state.specs.Standing.{SpaceFields}
 use Rattle.wm_state.specs.State.{State, Session, Workspace}
-use Rattle.wm_model.specs.Entered.{entries_of}
 use Rattle.wm_model.specs.Planning.{IsOpen, StandsAt, Stay}
-use Rattle.wm_model.specs.Step.{at_newest, change_limit, counter_limit, durably, at_its_end, not_built, write_ascending, written_all}
+use Rattle.wm_model.specs.Step.{at_newest, not_built, write_all, write_ascending}
 use Rattle.wm_model.proofs.Changing.{ascending, not_ascending}
-use Rattle.wm_model.proofs.Doing.{counts_as, does_nothing, spent_log}
+use Rattle.wm_model.proofs.Doing.{does_nothing}
 use Rattle.wm_model.proofs.Homes.{home_is}
 use Rattle.wm_model.proofs.Newest.{Acts, ComesTo, comes_to}
 use Rattle.wm_plan.proofs.Planning.{told}
 use Rattle.wm_change.specs.Acting.{AreFull, DoesAs, IsHome}
-use Rattle.wm_change.specs.Changing.{WritesAll}
 use Rattle.wm_plan.specs.Planning.{DoesIt}
 use Rattle.wm_plan.specs.Views.{answer_view, seating_view}
 use Rattle.wm_plan.specs.declared.planned.Planned.{Planned}
@@ -81,60 +77,20 @@ does_change rs m (Err e) session name fault empty act t a to lasting does = tt
 
 -- keys do not ascend
 pub writes_not : (rs : List Stored) (m : ℕ) (p : Planned) (session : Session) (a : Space) (t : Table) (count : ℕ) (changes : List RowChange) → keep_rules (parts_of rs) ≡ true → are_sorted (change_keys changes) ≡ false
-    → p.edits.items ≡ [] → seating_view p.seating ≡ Stay → answer_view p.answer ≡ not_built → DoesAs rs m session a (write_ascending session.user t count changes) p
+    → p.edits.items ≡ [] → seating_view p.seating ≡ Stay → answer_view p.answer ≡ not_built → DoesAs rs m session a (write_ascending session t count changes) p
 writes_not rs m p session a t count changes rules up none seats says =
-    answers_so rs m p session a (write_ascending session.user t count changes) not_built rules (λ s w. not_ascending session.user t count changes s w up) none seats says
+    answers_so rs m p session a (write_ascending session t count changes) not_built rules (λ s w. not_ascending session t count changes s w up) none seats says
 
 -- there are none
 pub writes_none : (rs : List Stored) (m : ℕ) (p : Planned) (session : Session) (a : Space) (t : Table) (count : ℕ) (changes : List RowChange) → keep_rules (parts_of rs) ≡ true → changes ≡ []
-    → p.edits.items ≡ [] → seating_view p.seating ≡ Stay → answer_view p.answer ≡ Done 0 → DoesAs rs m session a (write_ascending session.user t count changes) p
+    → p.edits.items ≡ [] → seating_view p.seating ≡ Stay → answer_view p.answer ≡ Done 0 → DoesAs rs m session a (write_ascending session t count changes) p
 writes_none rs m p session a t count changes rules empty none seats says =
-    answers_so rs m p session a (write_ascending session.user t count changes) (Done 0) rules (λ s w. ap (λ (xs : List RowChange). write_ascending session.user t count xs s w) empty) none seats says
+    answers_so rs m p session a (write_ascending session t count changes) (Done 0) rules (λ s w. ap (λ (xs : List RowChange). write_ascending session t count xs s w) empty) none seats says
 
-left_is : (c : Counters) (s : State) (k : ℕ) → CountsAs c s.durable → nat_le (s.durable.next_stamp + k) (s.durable.limit + 1) ≡ nat_le (c.next_stamp + k) (c.limit + 1)
-left_is c s k counts = ap (λ n. nat_le (n + k) (s.durable.limit + 1)) (sym counts.next_stamp) ∙ ap (λ n. nat_le (c.next_stamp + k) (n + 1)) (sym counts.limit)
-
--- no changes are left for so many
-pub writes_full : (rs : List Stored) (m : ℕ) (p : Planned) (session : Session) (a : Space) (t : Table) (c : Counters) (count : ℕ) (changes : List RowChange) → keep_rules (parts_of rs) ≡ true → are_sorted (change_keys changes) ≡ true
-    → (changes ≡ [] → ⊥) → (parts_of rs).counters ≡ c ∷ [] → nat_le (c.next_stamp + length changes) (c.limit + 1) ≡ false
-    → p.edits.items ≡ [] → seating_view p.seating ≡ Stay → answer_view p.answer ≡ change_limit c.limit → DoesAs rs m session a (write_ascending session.user t count changes) p
-writes_full rs m p session a t c count [] rules up some one full none seats says = absurd (some refl)
-writes_full rs m p session a t c count (x ∷ xs) rules up some one full none seats says =
-    does_answer rs m p session a (write_ascending session.user t count (x ∷ xs)) (change_limit c.limit) rules
-    (λ ys s w st home.
-    let counts = counts_as rs ys m s c st one in
-    ascending session.user t count (x ∷ xs) s w up
-    ∙ rw (left_is c s (length (x ∷ xs)) counts ∙ full) (ap (λ limit. let answered : State × Answer = (s, change_limit limit) in answered) (sym counts.limit))) none seats says
-
--- they are written where changes are left
-writes : (rs : List Stored) (xs : List Session) (m : ℕ) (session : Session) (a : Space) (t : Table) (c : Counters) (count : ℕ) (changes : List RowChange) (s : State) (w : Workspace) → are_sorted (change_keys changes) ≡ true
-    → (changes ≡ [] → ⊥) → (parts_of rs).counters ≡ c ∷ [] → nat_le (c.next_stamp + length changes) (c.limit + 1) ≡ true → StandsAt rs xs m s → a.log_length ≡ length w.lists.log
-    → write_ascending session.user t count changes s w ≡ durably s (a.log_length + length changes) (record s { durable = written_all w.number (entries_of s session.user t changes) s.durable }, Done count)
-writes rs xs m session a t c count [] s w up some one left st log = absurd (some refl)
-writes rs xs m session a t c count (x ∷ changes) s w up some one left st log =
-    ascending session.user t count (x ∷ changes) s w up
-    ∙ rw (left_is c s (length (x ∷ changes)) (counts_as rs xs m s c st one) ∙ left) refl
-    ∙ ap (λ l. durably s (l + length (x ∷ changes)) (record s { durable = written_all w.number (entries_of s session.user t (x ∷ changes)) s.durable }, Done count)) (sym log)
-
--- the log is at its end
-pub writes_long : (rs : List Stored) (m : ℕ) (p : Planned) (session : Session) (a : Space) (t : Table) (c : Counters) (count : ℕ) (changes : List RowChange) → keep_rules (parts_of rs) ≡ true → are_sorted (change_keys changes) ≡ true
-    → (changes ≡ [] → ⊥) → (parts_of rs).counters ≡ c ∷ [] → nat_le (c.next_stamp + length changes) (c.limit + 1) ≡ true → nat_lt counter_limit (a.log_length + length changes) ≡ true
-    → p.edits.items ≡ [] → seating_view p.seating ≡ Stay → answer_view p.answer ≡ at_its_end (codes "LOG") → DoesAs rs m session a (write_ascending session.user t count changes) p
-writes_long rs m p session a t c count changes rules up some one left long none seats says =
-    does_answer rs m p session a (write_ascending session.user t count changes) (at_its_end (codes "LOG")) rules
-    (λ xs s w st home.
-    writes rs xs m session a t c count changes s w up some one left st home.log
-    ∙ spent_log s (a.log_length + length changes) (record s { durable = written_all w.number (entries_of s session.user t changes) s.durable }, Done count) long) none seats says
-
--- they are
-pub writes_all : (rs : List Stored) (m : ℕ) (r : Result Planned Memory) (session : Session) (a : Space) (t : Table) (c : Counters) (count : ℕ) (changes : List RowChange) → are_sorted (change_keys changes) ≡ true
-    → (changes ≡ [] → ⊥) → (parts_of rs).counters ≡ c ∷ [] → nat_le (c.next_stamp + length changes) (c.limit + 1) ≡ true → IfOk r (WritesAll rs m session a t count changes)
-    → IfOk r (DoesAs rs m session a (write_ascending session.user t count changes))
-writes_all rs m (Ok p) session a t c count changes up some one left does = λ xs act acts. does xs act (λ s st.
-    let h = acts s st in
-    h.2 ∙ writes rs xs m session a t c count changes s h.0 up some one left st h.1.log
-    ∙ ap (λ n. durably s (a.log_length + length changes) (record s { durable = written_all n (entries_of s session.user t changes) s.durable }, Done count)) h.1.number)
-writes_all rs m (Err e) session a t c count changes up some one left does = tt
+-- they ascend
+pub writes_up : (rs : List Stored) (m : ℕ) (r : Result Planned Memory) (session : Session) (a : Space) (t : Table) (count : ℕ) (changes : List RowChange) → are_sorted (change_keys changes) ≡ true
+    → IfOk r (DoesAs rs m session a (write_all session t count changes)) → IfOk r (DoesAs rs m session a (write_ascending session t count changes))
+writes_up rs m r session a t count changes up does = does_so rs m r session a (write_all session t count changes) (write_ascending session t count changes) (λ s w. ascending session t count changes s w up) does
 
 -- ---- how many there are
 

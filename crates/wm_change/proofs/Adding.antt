@@ -31,19 +31,19 @@ taken_is rs xs m session a t key period version found s w newest shared st home 
 -- a row of the key stands there
 pub add_there : (rs : List Stored) (m : ℕ) (p : Planned) (session : Session) (a : Space) (t : Table) (period shared : Span) (row key : List Value) (version : ℕ) (found : Option Span) → keep_rules (parts_of rs) ≡ true
     → version ≡ latest (parts_of rs) session.space → IsFirstShared (parts_of rs) version t.number key period found → key ≡ row_key t row → found ≡ Some shared
-    → p.edits.items ≡ [] → seating_view p.seating ≡ Stay → answer_view p.answer ≡ key_there key (told_period t shared) → DoesAs rs m session a (add_to session.user t period row) p
+    → p.edits.items ≡ [] → seating_view p.seating ≡ Stay → answer_view p.answer ≡ key_there key (told_period t shared) → DoesAs rs m session a (add_to session t period row) p
 add_there rs m p session a t period shared row key version found rules newest is key_is there none seats says =
-    does_answer rs m p session a (add_to session.user t period row) (key_there key (told_period t shared)) rules
+    does_answer rs m p session a (add_to session t period row) (key_there key (told_period t shared)) rules
     (λ xs s w st home.
-    adds_there session.user t period shared row s w (ap (λ k. taken (content w) t k period) (sym key_is) ∙ taken_is rs xs m session a t key period version found s w newest is st home ∙ there)
+    adds_there session t period shared row s w (ap (λ k. taken (content w) t k period) (sym key_is) ∙ taken_is rs xs m session a t key period version found s w newest is st home ∙ there)
     ∙ ap (λ k. let answered : State × _ = (s, key_there k (told_period t shared)) in answered) (sym key_is))
     none seats says
 
 -- none does
 pub add_new : (rs : List Stored) (m : ℕ) (r : Result Planned Memory) (session : Session) (a : Space) (t : Table) (period : Span) (row key : List Value) (version : ℕ) (found : Option Span)
     → version ≡ latest (parts_of rs) session.space → IsFirstShared (parts_of rs) version t.number key period found → key ≡ row_key t row → found ≡ None
-    → IfOk r (DoesAs rs m session a (write_ascending session.user t 1 (added t period row ∷ []))) → IfOk r (DoesAs rs m session a (add_to session.user t period row))
+    → IfOk r (DoesAs rs m session a (write_ascending session t 1 (added t period row ∷ []))) → IfOk r (DoesAs rs m session a (add_to session t period row))
 add_new rs m r session a t period row key version found newest is key_is none =
-    does_known rs m r session a (write_ascending session.user t 1 (added t period row ∷ [])) (add_to session.user t period row)
+    does_known rs m r session a (write_ascending session t 1 (added t period row ∷ [])) (add_to session t period row)
     (λ xs s w st home.
-    adds_new session.user t period row s w (ap (λ k. taken (content w) t k period) (sym key_is) ∙ taken_is rs xs m session a t key period version found s w newest is st home ∙ none))
+    adds_new session t period row s w (ap (λ k. taken (content w) t k period) (sym key_is) ∙ taken_is rs xs m session a t key period version found s w newest is st home ∙ none))

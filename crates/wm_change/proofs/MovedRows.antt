@@ -117,19 +117,19 @@ clash_is rs xs m session a t moves version found s w newest finds st home =
 -- a new period overlaps that of another row
 pub move_there : (rs : List Stored) (m : ℕ) (p : Planned) (session : Session) (a : Space) (t : Table) (moves : List Move) (key : List Value) (shared : Span) (version : ℕ) → keep_rules (parts_of rs) ≡ true
     → version ≡ latest (parts_of rs) session.space → Finds (parts_of rs) version (λ es. first_clash es t moves moves) (Some (key, shared))
-    → p.edits.items ≡ [] → seating_view p.seating ≡ Stay → answer_view p.answer ≡ key_there key (Some shared) → DoesAs rs m session a (move_all session.user t moves) p
+    → p.edits.items ≡ [] → seating_view p.seating ≡ Stay → answer_view p.answer ≡ key_there key (Some shared) → DoesAs rs m session a (move_all session t moves) p
 move_there rs m p session a t moves key shared version rules newest finds none seats says =
-    does_answer rs m p session a (move_all session.user t moves) (key_there key (Some shared)) rules
-    (λ xs s w st home. moves_there session.user t moves key shared s w (clash_is rs xs m session a t moves version (Some (key, shared)) s w newest finds st home))
+    does_answer rs m p session a (move_all session t moves) (key_there key (Some shared)) rules
+    (λ xs s w st home. moves_there session t moves key shared s w (clash_is rs xs m session a t moves version (Some (key, shared)) s w newest finds st home))
     none seats says
 
 -- none does
 pub move_new : (rs : List Stored) (m : ℕ) (r : Result Planned Memory) (session : Session) (a : Space) (t : Table) (moves : List Move) (version : ℕ)
     → version ≡ latest (parts_of rs) session.space → Finds (parts_of rs) version (λ es. first_clash es t moves moves) None
-    → IfOk r (DoesAs rs m session a (write_ascending session.user t (length moves) (moving moves))) → IfOk r (DoesAs rs m session a (move_all session.user t moves))
+    → IfOk r (DoesAs rs m session a (write_ascending session t (length moves) (moving moves))) → IfOk r (DoesAs rs m session a (move_all session t moves))
 move_new rs m r session a t moves version newest finds =
-    does_known rs m r session a (write_ascending session.user t (length moves) (moving moves)) (move_all session.user t moves)
-    (λ xs s w st home. moves_new session.user t moves s w (clash_is rs xs m session a t moves version None s w newest finds st home))
+    does_known rs m r session a (write_ascending session t (length moves) (moving moves)) (move_all session t moves)
+    (λ xs s w st home. moves_new session t moves s w (clash_is rs xs m session a t moves version None s w newest finds st home))
 
 -- ---- what is written
 

@@ -80,7 +80,7 @@ delete_faults filter = λ table. delete_fault table filter
 
 -- what it does with rows
 abbrev pub deletes : Session → OnRows
-deletes session = λ table period rows. write_ascending session.user table (length rows) (map (gone table period) rows)
+deletes session = λ table period rows. write_ascending session table (length rows) (map (gone table period) rows)
 
 abbrev pub delete_acts : Session → Option Cond → Acts
 delete_acts session filter = with_rows session (on_chosen filter (deletes session))
@@ -91,7 +91,7 @@ abbrev pub update_faults : List Set → Option Cond → Table → Option Refusal
 update_faults sets filter = λ table. update_fault table sets filter
 
 abbrev pub updates : Session → List Set → OnRows
-updates session sets = λ table period rows. replace_all session.user table period sets rows (updated_rows table sets rows)
+updates session sets = λ table period rows. replace_all session table period sets rows (updated_rows table sets rows)
 
 abbrev pub update_acts : Session → List Set → Option Cond → Acts
 update_acts session sets filter = with_rows session (on_chosen filter (updates session sets))
@@ -102,4 +102,4 @@ abbrev pub insert_faults : Option (List (List ℕ)) → List Expr → Table → 
 insert_faults names values = λ table. insert_fault table names values
 
 abbrev pub insert_acts : Session → Option (List (List ℕ)) → List Expr → Acts
-insert_acts session names values = λ table. add_found session.user table (new_period session table names values) (row_of table names values)
+insert_acts session names values = λ table. add_found session table (new_period session table names values) (row_of table names values)

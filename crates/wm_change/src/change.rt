@@ -82,7 +82,7 @@ fn delete_rows(
     requires keyed { are_keyed site.table.now rows.now ≡ true }
     requires full { AreFull site.image.now site.moment site.session.now site.space.now rows.now }
     requires overlap { all_overlap site.table.now within.now rows.now ≡ true }
-    ensures does { IfOk result (DoesAt site.entry (write_ascending site.entry.session.now.user site.entry.table.now (length rows.now) (map (gone site.entry.table.now within.now) rows.now))) }
+    ensures does { IfOk result (DoesAt site.entry (write_ascending site.entry.session.now site.entry.table.now (length rows.now) (map (gone site.entry.table.now within.now) rows.now))) }
     ensures idle { IfOk result Idles }
 {
     if !are_filled(rows) {
@@ -153,7 +153,7 @@ fn change_all(
     requires stand { all_stand site.table.now rows.now ≡ true }
     requires overlap { all_overlap site.table.now within.now rows.now ≡ true }
     requires may_replace { MayReplace site.table.now rows.now news.items }
-    ensures does { IfOk result (DoesAt site.entry (change_all site.entry.session.now.user site.entry.table.now within.now (sets_view sets.now) rows.now news.items)) }
+    ensures does { IfOk result (DoesAt site.entry (change_all site.entry.session.now site.entry.table.now within.now (sets_view sets.now) rows.now news.items)) }
     ensures idle { IfOk result Idles }
 {
     if sets_period(site.table, sets) {
@@ -177,7 +177,7 @@ fn replace_all(
     requires update { IsUpdate site.table.now (sets_view sets.now) }
     requires stand { all_stand site.table.now rows.now ≡ true }
     requires overlap { all_overlap site.table.now within.now rows.now ≡ true }
-    ensures does { IfOk result (DoesAt site.entry (replace_all site.entry.session.now.user site.entry.table.now within.now (sets_view sets.now) rows.now (updated_rows site.entry.table.now (sets_view sets.now) rows.now))) }
+    ensures does { IfOk result (DoesAt site.entry (replace_all site.entry.session.now site.entry.table.now within.now (sets_view sets.now) rows.now (updated_rows site.entry.table.now (sets_view sets.now) rows.now))) }
     ensures idle { IfOk result Idles }
 {
     let news = match updated_rows(alloc, site.table, sets, rows) {
@@ -204,7 +204,7 @@ fn update_rows(
     requires keyed { are_keyed site.table.now rows.now ≡ true }
     requires full { AreFull site.image.now site.moment site.session.now site.space.now rows.now }
     requires overlap { all_overlap site.table.now within.now rows.now ≡ true }
-    ensures does { IfOk result (DoesAt site.entry (replace_all site.entry.session.now.user site.entry.table.now within.now (sets_view sets.now) rows.now (updated_rows site.entry.table.now (sets_view sets.now) rows.now))) }
+    ensures does { IfOk result (DoesAt site.entry (replace_all site.entry.session.now site.entry.table.now within.now (sets_view sets.now) rows.now (updated_rows site.entry.table.now (sets_view sets.now) rows.now))) }
     ensures idle { IfOk result Idles }
 {
     if !are_filled(rows) {

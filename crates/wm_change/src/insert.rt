@@ -79,7 +79,7 @@ fn add_to(alloc: Global, site: Site<'_>, period: Period, row: Values) -> Result<
     requires site { IsSite site }
     requires keyed { is_keyed_row site.table.now row ≡ true }
     requires filled { list_all is_filled row ≡ true }
-    ensures does { IfOk result (DoesAt site.entry (add_to site.entry.session.now.user site.entry.table.now period row)) }
+    ensures does { IfOk result (DoesAt site.entry (add_to site.entry.session.now site.entry.table.now period row)) }
     ensures idle { IfOk result Idles }
 {
     let _till = period.till();
@@ -109,7 +109,7 @@ fn add_row(
     requires fine { IsFine image.now insertion }
     requires home { space_of (parts_of image.now).spaces session.now.space ≡ Some space.now }
     requires lasting { list_all has_no_empty_period (exprs_view insertion.values.now) ≡ true }
-    ensures does { IfOk result (DoesAs image.now moment session.now space.now (add_found session.now.user insertion.entry.table.now (new_period session.now insertion.entry.table.now insertion.entry.names.now (exprs_view insertion.entry.values.now)) (row_of insertion.entry.table.now insertion.entry.names.now (exprs_view insertion.entry.values.now)))) }
+    ensures does { IfOk result (DoesAs image.now moment session.now space.now (add_found session.now insertion.entry.table.now (new_period session.now insertion.entry.table.now insertion.entry.names.now (exprs_view insertion.entry.values.now)) (row_of insertion.entry.table.now insertion.entry.names.now (exprs_view insertion.entry.values.now)))) }
     ensures idle { IfOk result Idles }
 {
     let table = insertion.table;

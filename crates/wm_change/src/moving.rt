@@ -93,7 +93,7 @@ pub fn move_all(alloc: Global, site: Site<'_>, moves: Vec<Move>) -> Result<Plann
     requires site { IsSite site }
     requires fit { list_all (λ (m : MoveOf). is_change site.table.now (moved_row m)) moves.items ≡ true }
     requires filled { list_all (λ (m : MoveOf). is_filled_change (moved_row m)) moves.items ≡ true }
-    ensures does { IfOk result (DoesAt site.entry (move_all site.entry.session.now.user site.entry.table.now moves.items)) }
+    ensures does { IfOk result (DoesAt site.entry (move_all site.entry.session.now site.entry.table.now moves.items)) }
     ensures idle { IfOk result Idles }
 {
     let version = site.image.latest(site.session.space());

@@ -23,11 +23,11 @@ move_all-requires-clause-filled c =
 
 pub returns-then-sets_period-clause-does : goal.returns-then-sets_period-clause-does
 returns-then-sets_period-clause-does c =
-    does_so c.args.site.image.now c.args.site.moment c.move_all.result c.args.site.session.now c.args.site.space.now (move_all c.args.site.session.now.user c.args.site.table.now c.in_ok-moves.moves.items)
-    (change_all c.args.site.session.now.user c.args.site.table.now c.args.within.now (sets_view c.args.sets.now) c.args.rows.now c.args.news.items)
+    does_so c.args.site.image.now c.args.site.moment c.move_all.result c.args.site.session.now c.args.site.space.now (move_all c.args.site.session.now c.args.site.table.now c.in_ok-moves.moves.items)
+    (change_all c.args.site.session.now c.args.site.table.now c.args.within.now (sets_view c.args.sets.now) c.args.rows.now c.args.news.items)
     (λ s w.
-    changes_moved c.args.site.session.now.user c.args.site.table.now c.args.within.now (sets_view c.args.sets.now) c.args.rows.now c.args.news.items s w (sym c.if-sets_period.ensures)
-    ∙ ap (λ ms. move_all c.args.site.session.now.user c.args.site.table.now ms s w) (sym c.in_ok-moves.ensures.exact))
+    changes_moved c.args.site.session.now c.args.site.table.now c.args.within.now (sets_view c.args.sets.now) c.args.rows.now c.args.news.items s w (sym c.if-sets_period.ensures)
+    ∙ ap (λ ms. move_all c.args.site.session.now c.args.site.table.now ms s w) (sym c.in_ok-moves.ensures.exact))
     c.move_all.ensures.does
 
 pub write_all-requires-clause-fit : goal.write_all-requires-clause-fit
@@ -46,9 +46,9 @@ write_all-requires-clause-filled c =
 
 pub returns-clause-does : goal.returns-clause-does
 returns-clause-does c =
-    does_so c.args.site.image.now c.args.site.moment c.write_all.result c.args.site.session.now c.args.site.space.now (write_ascending c.args.site.session.now.user c.args.site.table.now (length c.args.rows.now) c.in_ok-changes.changes.items)
-    (change_all c.args.site.session.now.user c.args.site.table.now c.args.within.now (sets_view c.args.sets.now) c.args.rows.now c.args.news.items)
+    does_so c.args.site.image.now c.args.site.moment c.write_all.result c.args.site.session.now c.args.site.space.now (write_ascending c.args.site.session.now c.args.site.table.now (length c.args.rows.now) c.in_ok-changes.changes.items)
+    (change_all c.args.site.session.now c.args.site.table.now c.args.within.now (sets_view c.args.sets.now) c.args.rows.now c.args.news.items)
     (λ s w.
-    changes_replaced c.args.site.session.now.user c.args.site.table.now c.args.within.now (sets_view c.args.sets.now) c.args.rows.now c.args.news.items s w (sym c.if-sets_period.ensures)
-    ∙ ap (λ xs. write_ascending c.args.site.session.now.user c.args.site.table.now (length c.args.rows.now) xs s w) (sym c.in_ok-changes.ensures.exact))
+    changes_replaced c.args.site.session.now c.args.site.table.now c.args.within.now (sets_view c.args.sets.now) c.args.rows.now c.args.news.items s w (sym c.if-sets_period.ensures)
+    ∙ ap (λ xs. write_ascending c.args.site.session.now c.args.site.table.now (length c.args.rows.now) xs s w) (sym c.in_ok-changes.ensures.exact))
     c.write_all.ensures.does

@@ -12,7 +12,7 @@ use Rattle.wm_change.proofs.change.delete_rows.Goals as goal
 pub returns-then-not-are_filled-clause-does : goal.returns-then-not-are_filled-clause-does
 returns-then-not-are_filled-clause-does c =
     let t = c.args.site.table.now in
-    answers_full c.args.site.image.now c.args.site.moment c.answered.result c.args.site.session.now c.args.site.space.now (write_ascending c.args.site.session.now.user t (length c.args.rows.now) (map (gone t c.args.within.now) c.args.rows.now)) not_built c.args.rows.now c.requires.site.rules
+    answers_full c.args.site.image.now c.args.site.moment c.answered.result c.args.site.session.now c.args.site.space.now (write_ascending c.args.site.session.now t (length c.args.rows.now) (map (gone t c.args.within.now) c.args.rows.now)) not_built c.args.rows.now c.requires.site.rules
     c.requires.full (sym c.if-not-are_filled.ensures) c.answered.ensures.edits (ap seating_view c.answered.ensures.seating) (ap answer_view c.answered.ensures.answer ∙ c.not_built.ensures)
 
 pub write_all-requires-clause-fit : goal.write_all-requires-clause-fit
@@ -30,7 +30,7 @@ write_all-requires-clause-counted c = λ none. c.in_ok-changes.ensures.exact ∙
 pub returns-clause-does : goal.returns-clause-does
 returns-clause-does c =
     let t = c.args.site.table.now in
-    let user = c.args.site.session.now.user in
-    does_so c.args.site.image.now c.args.site.moment c.write_all.result c.args.site.session.now c.args.site.space.now (write_ascending user t (length c.args.rows.now) c.in_ok-changes.changes.items)
-    (write_ascending user t (length c.args.rows.now) (map (gone t c.args.within.now) c.args.rows.now))
-    (λ s w. ap (λ xs. write_ascending user t (length c.args.rows.now) xs s w) (sym c.in_ok-changes.ensures.exact)) c.write_all.ensures.does
+    let session = c.args.site.session.now in
+    does_so c.args.site.image.now c.args.site.moment c.write_all.result c.args.site.session.now c.args.site.space.now (write_ascending session t (length c.args.rows.now) c.in_ok-changes.changes.items)
+    (write_ascending session t (length c.args.rows.now) (map (gone t c.args.within.now) c.args.rows.now))
+    (λ s w. ap (λ xs. write_ascending session t (length c.args.rows.now) xs s w) (sym c.in_ok-changes.ensures.exact)) c.write_all.ensures.does

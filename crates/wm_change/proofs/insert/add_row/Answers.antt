@@ -15,8 +15,8 @@ returns-in-Err-OutOfRange-clause-does c =
     let i = c.args.insertion in
     let period = new_period c.args.session.now i.table.now i.names.now (exprs_view i.values.now) in
     let found = row_of i.table.now i.names.now (exprs_view i.values.now) in
-    answers_so c.args.image.now c.args.moment c.answered.result c.args.session.now c.args.space.now (add_found c.args.session.now.user i.table.now period found) out_of_range c.requires.rules
-    (λ s w. adds_none c.args.session.now.user i.table.now period found s w (let h = rw c.in-Err-OutOfRange.field-0-is at c.in-Err-OutOfRange.ensures.out_of_range in h refl)) c.answered.ensures.edits (ap seating_view c.answered.ensures.seating)
+    answers_so c.args.image.now c.args.moment c.answered.result c.args.session.now c.args.space.now (add_found c.args.session.now i.table.now period found) out_of_range c.requires.rules
+    (λ s w. adds_none c.args.session.now i.table.now period found s w (let h = rw c.in-Err-OutOfRange.field-0-is at c.in-Err-OutOfRange.ensures.out_of_range in h refl)) c.answered.ensures.edits (ap seating_view c.answered.ensures.seating)
     (ap answer_view c.answered.ensures.answer ∙ c.out_of_range.ensures)
 
 pub returns-in-Some-clause-does : goal.returns-in-Some-clause-does
@@ -24,8 +24,8 @@ returns-in-Some-clause-does c =
     let i = c.args.insertion in
     let period = new_period c.args.session.now i.table.now i.names.now (exprs_view i.values.now) in
     let found = row_of i.table.now i.names.now (exprs_view i.values.now) in
-    answers_so c.args.image.now c.args.moment c.answered-in-Some.result c.args.session.now c.args.space.now (add_found c.args.session.now.user i.table.now period found) (Refused c.in-Some.refusal) c.requires.rules
-    (λ s w. adds_wrong c.args.session.now.user i.table.now period found c.in-Ok.row c.in-Some.refusal s w c.in-Ok.ensures.ok (ap (row_fault i.table.now) (sym c.as_slice.ensures) ∙ sym c.in_ok-refusal.ensures.fault ∙ c.in-Some.is))
+    answers_so c.args.image.now c.args.moment c.answered-in-Some.result c.args.session.now c.args.space.now (add_found c.args.session.now i.table.now period found) (Refused c.in-Some.refusal) c.requires.rules
+    (λ s w. adds_wrong c.args.session.now i.table.now period found c.in-Ok.row c.in-Some.refusal s w c.in-Ok.ensures.ok (ap (row_fault i.table.now) (sym c.as_slice.ensures) ∙ sym c.in_ok-refusal.ensures.fault ∙ c.in-Some.is))
     c.answered-in-Some.ensures.edits (ap seating_view c.answered-in-Some.ensures.seating) (ap answer_view c.answered-in-Some.ensures.answer)
 
 pub add_to-requires-clause-site : goal.add_to-requires-clause-site
@@ -45,7 +45,7 @@ returns-clause-does c =
     let i = c.args.insertion in
     let period = new_period c.args.session.now i.table.now i.names.now (exprs_view i.values.now) in
     let found = row_of i.table.now i.names.now (exprs_view i.values.now) in
-    does_so c.args.image.now c.args.moment c.add_to.result c.args.session.now c.args.space.now (add_to c.args.session.now.user i.table.now c.new_period-period.result c.in-Ok.row) (add_found c.args.session.now.user i.table.now period found)
-    (λ s w. adds c.args.session.now.user i.table.now period found c.in-Ok.row s w c.in-Ok.ensures.ok (ap (row_fault i.table.now) (sym c.as_slice.ensures) ∙ sym c.in_ok-refusal.ensures.fault ∙ c.in_default.is)
-    ∙ ap (λ p. add_to c.args.session.now.user i.table.now p c.in-Ok.row s w) (sym c.new_period-period.ensures))
+    does_so c.args.image.now c.args.moment c.add_to.result c.args.session.now c.args.space.now (add_to c.args.session.now i.table.now c.new_period-period.result c.in-Ok.row) (add_found c.args.session.now i.table.now period found)
+    (λ s w. adds c.args.session.now i.table.now period found c.in-Ok.row s w c.in-Ok.ensures.ok (ap (row_fault i.table.now) (sym c.as_slice.ensures) ∙ sym c.in_ok-refusal.ensures.fault ∙ c.in_default.is)
+    ∙ ap (λ p. add_to c.args.session.now i.table.now p c.in-Ok.row s w) (sym c.new_period-period.ensures))
     c.add_to.ensures.does

@@ -32,6 +32,6 @@ pub returns-clause-does : goal.returns-clause-does
 returns-clause-does c =
     add_new c.args.site.image.now c.args.site.moment c.write_all.result c.args.site.session.now c.args.site.space.now c.args.site.table.now c.args.period c.args.row c.in_ok-change.change.key c.latest-version.result c.in_ok-shared.shared
     (c.latest-version.ensures ∙ ap (latest (parts_of c.args.site.image.now)) c.space.ensures) c.in_ok-shared.ensures (ap (λ x. x.key) c.in_ok-change.ensures) c.in_default.is
-    (does_so c.args.site.image.now c.args.site.moment c.write_all.result c.args.site.session.now c.args.site.space.now (write_ascending c.args.site.session.now.user c.args.site.table.now 1 c.in_ok-changes.changes.items)
-    (write_ascending c.args.site.session.now.user c.args.site.table.now 1 (added c.args.site.table.now c.args.period c.args.row ∷ []))
-    (λ s w. ap (λ xs. write_ascending c.args.site.session.now.user c.args.site.table.now 1 xs s w) (sym (c.in_ok-changes.ensures ∙ ap (λ x. x ∷ []) c.in_ok-change.ensures))) c.write_all.ensures.does)
+    (does_so c.args.site.image.now c.args.site.moment c.write_all.result c.args.site.session.now c.args.site.space.now (write_ascending c.args.site.session.now c.args.site.table.now 1 c.in_ok-changes.changes.items)
+    (write_ascending c.args.site.session.now c.args.site.table.now 1 (added c.args.site.table.now c.args.period c.args.row ∷ []))
+    (λ s w. ap (λ xs. write_ascending c.args.site.session.now c.args.site.table.now 1 xs s w) (sym (c.in_ok-changes.ensures ∙ ap (λ x. x ∷ []) c.in_ok-change.ensures))) c.write_all.ensures.does)

@@ -38,13 +38,13 @@ write_all-requires-clause-filled c = c.in_ok-changes.ensures.all is_filled_chang
 
 pub returns-clause-does : goal.returns-clause-does
 returns-clause-does c =
-    let user = c.args.site.session.now.user in
+    let session = c.args.site.session.now in
     let t = c.args.site.table.now in
     let moves = c.args.moves.items in
     let count = c.len-count.result in
     move_new c.args.site.image.now c.args.site.moment c.write_all.result c.args.site.session.now c.args.site.space.now t moves c.latest-version.result (c.latest-version.ensures ∙ ap (latest (parts_of c.args.site.image.now)) c.space.ensures)
     (finds_so (parts_of c.args.site.image.now) c.latest-version.result t c.as_slice-2.result.now moves c.in_ok-clash.clash None c.in_ok-clash.ensures c.as_slice-2.ensures.value c.in_default.is)
-    (does_so c.args.site.image.now c.args.site.moment c.write_all.result c.args.site.session.now c.args.site.space.now (write_ascending user t count c.in_ok-changes.changes.items) (write_ascending user t (length moves) (moving moves))
+    (does_so c.args.site.image.now c.args.site.moment c.write_all.result c.args.site.session.now c.args.site.space.now (write_ascending session t count c.in_ok-changes.changes.items) (write_ascending session t (length moves) (moving moves))
     (λ s w.
-    ap (λ n. write_ascending user t n (moving moves) s w) (sym (counted_moves c.args.moves count c.len-count.ensures))
-    ∙ ap (λ xs. write_ascending user t count xs s w) (sym c.in_ok-changes.ensures.exact)) c.write_all.ensures.does)
+    ap (λ n. write_ascending session t n (moving moves) s w) (sym (counted_moves c.args.moves count c.len-count.ensures))
+    ∙ ap (λ xs. write_ascending session t count xs s w) (sym c.in_ok-changes.ensures.exact)) c.write_all.ensures.does)
