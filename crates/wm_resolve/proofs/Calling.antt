@@ -16,8 +16,7 @@ use Rattle.wm_grammar.specs.declared.procedure.Procedure.{Procedure}
 use Rattle.wm_grammar.specs.declared.procedure.Procedure.TheVariants as procedures
 use Rattle.wm_graph.specs.Parts.{parts_of}
 use Rattle.wm_model.specs.Planning.{Does, StandsAt, Stay, named}
-use Rattle.wm_model.specs.Step.{begin_resolve, call, commit_resolve, mistyped, no_table, resolve_conflicts, rollback_resolve, unkeyed_fault, unless, unless_mistyped, versioning}
-use Rattle.wm_model.specs.Step.Calling.{call_with, fault_around, given, keep_given}
+use Rattle.wm_model.specs.Step.{begin_resolve, call, call_with, commit_resolve, fault_around, given, keep_given, mistyped, no_table, resolve_conflicts, rollback_resolve, unkeyed_fault, unless, unless_mistyped, versioning}
 use Rattle.wm_model.proofs.Doing.{does_nothing}
 use Rattle.wm_model.proofs.Homes.{with_none, with_some}
 use Rattle.wm_print.specs.Texts.{Answer, Refused}

@@ -7,11 +7,14 @@ use Rattle.std.specs.Str.{bytes_eq}
 use Rattle.std.specs.Option.{option_map_or}
 use Rattle.std.specs.declared.alloc.Global.{Global}
 use Rattle.std.specs.declared.vec.Vec.{Vec}
+use Rattle.wm_base.specs.declared.refusal.Refusal.{Refusal}
 use Rattle.wm_decided.specs.Netted.{entries_decided, marks_of}
 use Rattle.wm_decided.specs.Staged.{AreStaged, IsStaged, IsStagedResolve}
 use Rattle.wm_graph.specs.Parts.{parts_of}
 use Rattle.wm_net.specs.Conflicts.{Settled}
-use Rattle.wm_print.specs.Texts.{Answer, Fine}
+use Rattle.wm_outline.proofs.Outlines.{outline_is}
+use Rattle.wm_outline.specs.Outline.{Outline, outline, outline_of}
+use Rattle.wm_print.specs.Texts.{Answer, Fine, Refused}
 use Rattle.wm_spec.specs.Lists.{Entry}
 use Rattle.wm_spec.specs.declared.record.counters.Counters.{Counters}
 use Rattle.wm_spec.specs.declared.record.space.Space.{Space}
@@ -25,7 +28,7 @@ use Rattle.wm_state.specs.declared.edit.Edit.TheVariants as edits
 use Rattle.wm_state.specs.declared.edit.NewEntry.{NewEntry}
 use Rattle.wm_state.specs.declared.edit.NewMark.{NewMark}
 use Rattle.wm_model.specs.Planning.{StandsAt, Does, IsOpen, Set, Stay}
-use Rattle.wm_model.specs.Step.{at_its_end, commit, commit_resolve, counter_limit, decisions_of, durably, has_open, line_work, resolved, set_of}
+use Rattle.wm_model.specs.Step.{at_its_end, cells_of, claim_of, commit, commit_resolve, counter_limit, decisions_of, durably, has_open, line_work, lock_fault, resolved, set_of, unless}
 use Rattle.wm_model.specs.Step.Sessions as settings
 use Rattle.wm_model.specs.Undone.{NamesSpace}
 use Rattle.wm_state.proofs.EditedLater.{all_edited_append}
@@ -76,39 +79,58 @@ pub record Commits (rs : List Stored) (m : ℕ) (session : Session) (workspace :
   pub entries : es ≡ entries_decided m session.user ds
 
 module _ (rs : List Stored) (xs : List Session) (m : ℕ) (session : Session) (workspace : List ℕ) (a : Space) (ds : List Decision) (es : List Entry) (c : Commits rs m session workspace a ds es) where
+  -- what locks refuse the line for
+  abbrev pub barred_by : Option Refusal
+  barred_by = lock_fault (outline_of (parts_of rs) xs m) (claim_of session a.number) (map cells_of es)
+
   -- the line, by the entries and the log
   commits : (s : State) (st : StandsAt rs xs m s) → let w : Workspace = (home rs xs m workspace a s c.names st).workspace in
-      commit_resolve session workspace s ≡ durably s (a.log_length + length es) (committed session s w.number es (marks_of (w.next_place - 1) ds))
+      commit_resolve session workspace s ≡ unless barred_by s (durably s (a.log_length + length es) (committed session s w.number es (marks_of (w.next_place - 1) ds)))
   commits s st =
       let h = home rs xs m workspace a s c.names st in
+      let w : Workspace = h.workspace in
       resolving rs xs m session workspace (commit_to session) a true s c.names st c.has
-      ∙ ap (λ ys. commit session ys h.workspace s) c.decisions
-      ∙ some_decided ds h.workspace c.some
-      ∙ ap (λ n. at n h.workspace (length h.workspace.lists.log)) (sym st.moment_is)
-      ∙ ap (λ (ys : List Entry). durably s (length h.workspace.lists.log + length ys) (committed session s h.workspace.number ys (marks_of (h.workspace.next_place - 1) ds))) (sym c.entries)
-      ∙ ap (λ (x : SpaceFields). durably s (x.log_length + length es) (committed session s h.workspace.number es (marks_of (h.workspace.next_place - 1) ds))) (sym h.is.fields)
+      ∙ ap (λ ys. commit session ys w s) c.decisions
+      ∙ some_decided ds w c.some
+      ∙ ap (λ n. at (outline s) w.number w (length w.lists.log) (entries_decided n session.user ds) ds) (sym st.moment_is)
+      ∙ ap (λ (ys : List Entry). at (outline s) w.number w (length w.lists.log) ys ds) (sym c.entries)
+      ∙ ap (λ (x : SpaceFields). at (outline s) w.number w x.log_length es ds) (sym h.is.fields)
+      ∙ ap (λ (o : Outline). at o w.number w a.log_length es ds) (sym (outline_is (parts_of rs) xs m s st.stands st.sessions_are st.moment_is))
+      ∙ ap (λ n. at (outline_of (parts_of rs) xs m) n w a.log_length es ds) h.is.number
     where
-      at : ℕ → Workspace → ℕ → State × Answer
-      at n w log = let ys = entries_decided n session.user ds in durably s (log + length ys) (committed session s w.number ys (marks_of (w.next_place - 1) ds))
+      at : Outline → ℕ → Workspace → ℕ → List Entry → List Decision → State × Answer
+      at o n w log ys xs = unless (lock_fault o (claim_of session n) (map cells_of ys)) s (durably s (log + length ys) (committed session s w.number ys (marks_of (w.next_place - 1) xs)))
 
-      some_decided : (xs : List Decision) (w : Workspace) → ((xs ≡ []) → ⊥)
-          → commit session xs w s
-          ≡ durably s (length w.lists.log + length (entries_decided s.moment session.user xs)) (committed session s w.number (entries_decided s.moment session.user xs) (marks_of (w.next_place - 1) xs))
+      some_decided : (xs : List Decision) (w : Workspace) → ((xs ≡ []) → ⊥) → commit session xs w s ≡ at (outline s) w.number w (length w.lists.log) (entries_decided s.moment session.user xs) xs
       some_decided [] w some = absurd (some refl)
       some_decided (x ∷ xs) w some = refl
 
-  pub commit_long : nat_lt counter_limit (a.log_length + length es) ≡ true → Does rs xs m [] Stay (at_its_end (codes "LOG")) (commit_resolve session workspace)
-  commit_long long =
+  -- a lock bars it
+  pub commit_locked : (refusal : Refusal) → barred_by ≡ Some refusal → Does rs xs m [] Stay (Refused refusal) (commit_resolve session workspace)
+  commit_locked refusal some =
+      does_nothing rs xs m (Refused refusal) (commit_resolve session workspace)
+      (λ s st. let w : Workspace = (home rs xs m workspace a s c.names st).workspace in
+      commits s st ∙ ap (λ o. unless o s (durably s (a.log_length + length es) (committed session s w.number es (marks_of (w.next_place - 1) ds)))) some)
+
+  -- none does
+  clears : (s : State) (st : StandsAt rs xs m s) → barred_by ≡ None → let w : Workspace = (home rs xs m workspace a s c.names st).workspace in
+      commit_resolve session workspace s ≡ durably s (a.log_length + length es) (committed session s w.number es (marks_of (w.next_place - 1) ds))
+  clears s st none =
+      let w : Workspace = (home rs xs m workspace a s c.names st).workspace in
+      commits s st ∙ ap (λ o. unless o s (durably s (a.log_length + length es) (committed session s w.number es (marks_of (w.next_place - 1) ds)))) none
+
+  pub commit_long : barred_by ≡ None → nat_lt counter_limit (a.log_length + length es) ≡ true → Does rs xs m [] Stay (at_its_end (codes "LOG")) (commit_resolve session workspace)
+  commit_long none long =
       does_nothing rs xs m (at_its_end (codes "LOG")) (commit_resolve session workspace)
       (λ s st. let w : Workspace = (home rs xs m workspace a s c.names st).workspace in
-      commits s st ∙ spent_log s (a.log_length + length es) (committed session s w.number es (marks_of (w.next_place - 1) ds)) long)
+      clears s st none ∙ spent_log s (a.log_length + length es) (committed session s w.number es (marks_of (w.next_place - 1) ds)) long)
 
-  pub commit_spent : (k : Counters) → nat_lt counter_limit (a.log_length + length es) ≡ false → (parts_of rs).counters ≡ k ∷ [] → nat_lt counter_limit (k.work + line_work) ≡ true
+  pub commit_spent : (k : Counters) → barred_by ≡ None → nat_lt counter_limit (a.log_length + length es) ≡ false → (parts_of rs).counters ≡ k ∷ [] → nat_lt counter_limit (k.work + line_work) ≡ true
       → Does rs xs m [] Stay (at_its_end (codes "WORK")) (commit_resolve session workspace)
-  commit_spent k short one much =
+  commit_spent k none short one much =
       does_nothing rs xs m (at_its_end (codes "WORK")) (commit_resolve session workspace)
       (λ s st. let w : Workspace = (home rs xs m workspace a s c.names st).workspace in
-      commits s st ∙ spent_at rs xs m s (a.log_length + length es) k (committed session s w.number es (marks_of (w.next_place - 1) ds)) st one short much)
+      clears s st none ∙ spent_at rs xs m s (a.log_length + length es) k (committed session s w.number es (marks_of (w.next_place - 1) ds)) st one short much)
 
   -- what a session that is open has staged can be committed
   pub commit_unstaged : (answer : Answer) → IsOpen xs session → (All (IsStaged (parts_of rs)) ds → ⊥) → Does rs xs m [] Stay answer (commit_resolve session workspace)
@@ -142,15 +164,15 @@ module _ (rs : List Stored) (xs : List Session) (m : ℕ) (session : Session) (w
       (λ i. resolved (sym is i) (marked i) w)
       ∙ ap (λ n. with_space n (resolved es (marks_of (w.next_place - 1) ds)) d.spaces) (sym number))
 
-  pub does_commit : (k : Counters) (entries : Vec NewEntry Global) (marks : Vec NewMark Global) → es ≡ map entry_of entries.items → ((place : ℕ) → map (settled_by place) marks.items ≡ marks_of place ds)
+  pub does_commit : (k : Counters) (entries : Vec NewEntry Global) (marks : Vec NewMark Global) → barred_by ≡ None → es ≡ map entry_of entries.items → ((place : ℕ) → map (settled_by place) marks.items ≡ marks_of place ds)
       → CanDraft rs m (commit_edits a.number entries marks) → nat_lt counter_limit (a.log_length + length es) ≡ false → (parts_of rs).counters ≡ k ∷ [] → nat_lt counter_limit (k.work + line_work) ≡ false
       → Does rs xs m (commit_edits a.number entries marks) (Set session.name settings.End) Fine (commit_resolve session workspace)
-  does_commit k entries marks is marked can short one spare = record {
+  does_commit k entries marks none is marked can short one spare = record {
     can = can;
     seats = tt;
     does = λ s st. let h = home rs xs m workspace a s c.names st in
         let w = h.workspace in
-        commits s st
+        clears s st none
         ∙ not_spent_at rs xs m s (a.log_length + length es) k (committed session s w.number es (marks_of (w.next_place - 1) ds)) st one short spare
         ∙ ap (λ (d : Durable). (record (set_of session settings.End s) { durable = record d { last_moment = m; work = s.durable.work + line_work } }, Fine)) (sym (made w entries marks s.durable h.is.number h.is.found is (marked (w.next_place - 1))))
         ∙ ap (λ (d : Durable). (record (set_of session settings.End s) { durable = d }, Fine)) (sym (some_edits m a.number (length entries.items == 0) entries marks s.durable))

@@ -1,6 +1,6 @@
 //! What the four calls are given.
 
-ghost use Rattle.std.specs.Prelude.{◌≡◌, ◌<◌, ℕ, List, [], Some, true, unwrap_or, option_copied, IfOk};
+ghost use Rattle.std.specs.Prelude.{◌≡◌, ◌<◌, ℕ, List, [], Some, true, unwrap_or, IfOk};
 ghost use Rattle.wm_syntax.specs.Views.{filter_view};
 ghost use Rattle.wm_base.specs.declared.instant.TheConstants.{END};
 ghost use Rattle.wm_calls.specs.Arguments.{text_given};
@@ -9,8 +9,7 @@ ghost use Rattle.wm_grammar.specs.declared.procedure.Procedure.TheVariants as pr
 ghost use Rattle.wm_graph.specs.Parts.{parts_of, table_of};
 ghost use Rattle.wm_graph.specs.Rules.{keep_rules};
 ghost use Rattle.wm_model.specs.Planning.{IsOpen, named};
-ghost use Rattle.wm_model.specs.Step.{call, resolve_conflicts};
-ghost use Rattle.wm_model.specs.Step.Calling.{call_with, fault_around, keep_given, keep_in};
+ghost use Rattle.wm_model.specs.Step.{call, call_with, fault_around, keep_given, keep_in, resolve_conflicts};
 ghost use Rattle.wm_plan.specs.Idle.{Idles};
 ghost use Rattle.wm_plan.specs.Planning.{DoesIt};
 ghost use Rattle.wm_state.specs.State.{Session as SessionState};
@@ -19,14 +18,14 @@ use crate::committing::commit_resolve;
 use crate::deciding::{Asked, resolve_in};
 use crate::opening::{begin_resolve, rollback_resolve};
 use std::alloc::Global;
-use wm_base::{FormRefusal, Memory, Name, Refusal};
-use wm_calls::{misfit_before, parameter_name, text_given};
+use wm_base::{FormRefusal, Memory, Refusal};
+use wm_calls::text_given;
 use wm_decided::Keep;
 use wm_decided::keyed::{mistyped_key, unkeyed_name};
 use wm_grammar::{Parameter, Procedure};
 use wm_image::Image;
 use wm_plan::answer::Answer;
-use wm_plan::given::{Given, bytes_given, fault_of, lacking};
+use wm_plan::given::{Given, bytes_given, fault_around, fault_of, lacking};
 use wm_plan::planned::Planned;
 use wm_plan::refuse::{mistyped, no_table, versioning};
 use wm_plan::session::Session;
@@ -111,20 +110,6 @@ fn keep_given(args: &[Arg]) -> Keep
     keep_in(bytes_given(Procedure::ResolveConflicts, args, Parameter::Keep, b""))
 }
 
-/// What is wrong with the arguments, where this is of a wrong type first in the condition.
-fn fault_around(alloc: Global, args: &[Arg], inside: Option<&[u8]>) -> Result<Option<Name>, Memory>
-    ensures { IfOk result (λ fault. fault ≡ fault_around procedures.ResolveConflicts args.now (option_copied inside.entry)) }
-{
-    let before = misfit_before(Procedure::ResolveConflicts, Parameter::WhereClause, args);
-    if let Some(parameter) = before {
-        return Ok(Some(Name::copy_of(alloc, parameter_name(parameter))?));
-    }
-    match inside {
-        Some(mark) => Ok(Some(Name::copy_of(alloc, mark)?)),
-        None => fault_of(alloc, Procedure::ResolveConflicts, args),
-    }
-}
-
 /// ResolveConflicts over a table that is there.
 fn resolve_over(
     alloc: Global,
@@ -148,7 +133,7 @@ fn resolve_over(
         return Ok(Planned::answered(alloc, Answer::Refused(refusal)));
     }
     let mark = mistyped_key(alloc, table, given.condition)?;
-    if let Some(parameter) = fault_around(alloc, given.args, mark)? {
+    if let Some(parameter) = fault_around(alloc, Procedure::ResolveConflicts, given.args, mark)? {
         return Ok(Planned::answered(alloc, mistyped(parameter)));
     }
     let workspace = bytes_given(

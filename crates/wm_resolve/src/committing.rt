@@ -15,6 +15,7 @@ ghost use Rattle.wm_state.specs.State.{Session as SessionState};
 use crate::opening::{has_open, setting};
 use crate::restorable::are_staged;
 use std::alloc::Global;
+use wm_barred::barring::{Claim, entries_fault};
 use wm_base::{Memory, Name};
 use wm_decided::decision::Decision;
 use wm_decided::netted::{Netted, net_decisions};
@@ -41,7 +42,7 @@ fn commit_edits(alloc: Global, space: u32, netted: Netted) -> Result<Vec<Edit>, 
     Ok(edits)
 }
 
-/// Decisions of a resolve of a workspace become changes and marks of it, unless a counter is at its end.
+/// Decisions of a resolve of a workspace become changes and marks of it, unless a lock bars them or a counter is at its end.
 fn commit_decisions(
     alloc: Global,
     image: &Image,
@@ -58,8 +59,18 @@ fn commit_decisions(
     ensures does { IfOk result (λ p. (xs : List SessionState) (workspace : List ℕ) → NamesSpace image.now workspace space.now → IsOpen xs session.now → DoesIt image.now xs moment p (commit_resolve session.now workspace)) }
     ensures idle { IfOk result Idles }
 {
-    let netted = net_decisions(alloc, decisions, moment, session.user())?;
-    if is_long(space.log_length, netted.entries.as_slice()) {
+    let user = session.user();
+    let netted = net_decisions(alloc, decisions, moment, user)?;
+    let claim = Claim {
+        space: space.number,
+        user,
+        except: None,
+    };
+    let entries = netted.entries.as_slice();
+    if let Some(refusal) = entries_fault(alloc, image, claim, entries)? {
+        return Ok(Planned::answered(alloc, Answer::Refused(refusal)));
+    }
+    if is_long(space.log_length, entries) {
         return Ok(Planned::answered(alloc, at_its_end(alloc, b"LOG")?));
     }
     if is_spent(&image.counters()) {

@@ -6,8 +6,7 @@ use Rattle.wm_calls.specs.Faults.{argument_fault}
 use Rattle.wm_grammar.specs.declared.procedure.Parameter.TheVariants as parameters
 use Rattle.wm_grammar.specs.declared.procedure.Procedure.TheVariants as procedures
 use Rattle.wm_model.specs.Planning.{named}
-use Rattle.wm_model.specs.Step.{mistyped, resolve_conflicts}
-use Rattle.wm_model.specs.Step.Calling.{call_with, fault_around, keep_given}
+use Rattle.wm_model.specs.Step.{call_with, fault_around, keep_given, mistyped, resolve_conflicts}
 use Rattle.wm_model.proofs.Named.{named_is}
 use Rattle.wm_plan.proofs.Planning.{does_one, refused}
 use Rattle.wm_reader.specs.Reading.{folded}

@@ -6,8 +6,7 @@ use Rattle.wm_calls.specs.Arguments.{text_given}
 use Rattle.wm_grammar.specs.declared.procedure.Parameter.TheVariants as parameters
 use Rattle.wm_grammar.specs.declared.procedure.Procedure.TheVariants as procedures
 use Rattle.wm_model.specs.Planning.{Stay}
-use Rattle.wm_model.specs.Step.{resolve_conflicts, versioning}
-use Rattle.wm_model.specs.Step.Calling.{fault_around, keep_given}
+use Rattle.wm_model.specs.Step.{fault_around, keep_given, resolve_conflicts, versioning}
 use Rattle.wm_plan.proofs.Planning.{does_one, told}
 use Rattle.wm_plan.specs.Views.{answer_view, seating_view}
 use Rattle.wm_resolve.proofs.Calling.{inside_none, name_found, resolve_right, resolve_unready}
