@@ -1,5 +1,5 @@
 -- What is asked before the edits of a merge, where nothing refuses it and its entries can be written again.
-use Rattle.std.proofs.Common.{◌≡◌, ℕ, ◌+◌, ◌≤◌, ◌==◌, nat_lt, Bool, true, false, not, if◌then◌else◌, List, [], ◌∷◌, ◌++◌, map, length, Option, Some, None, is_some, refl, sym, ap, ◌∙◌, subst, arith}
+use Rattle.std.proofs.Common.{◌≡◌, ℕ, ◌+◌, ◌≤◌, ◌==◌, nat_lt, Bool, true, false, not, if◌then◌else◌, List, [], ◌∷◌, ◌++◌, map, length, Option, Some, None, is_some, refl, sym, ap, ◌∙◌, subst, append_assoc, arith}
 use Rattle.std.proofs.lemmas.List.{length-append}
 use Rattle.std.proofs.lemmas.Bool.{true≢false, not-true}
 use Rattle.std.specs.declared.alloc.Global.{Global}
@@ -10,7 +10,7 @@ use Rattle.wm_graph.specs.Rules.{keep_rules}
 use Rattle.wm_spec.specs.declared.record.counters.Counters.{Counters}
 use Rattle.wm_spec.specs.declared.record.space.Space.{Space}
 use Rattle.wm_spec.specs.declared.record.stored.Stored.{Stored}
-use Rattle.wm_state.specs.ById.{Ascend}
+use Rattle.wm_state.specs.ById.{Ascend, applied}
 use Rattle.wm_state.specs.Drafts.{CanDraft, CanEditAll, CanGain, CanRebase, CanRemove, CanReplay}
 use Rattle.wm_state.specs.Editing.{counter_limit, entry_of, line_work}
 use Rattle.wm_state.specs.State.{Session}
@@ -24,8 +24,8 @@ use Rattle.wm_telling.proofs.Storing.{stores_gained, stores_own}
 use Rattle.wm_model.proofs.MergedEdits.{merge_lockless}
 use Rattle.wm_model.proofs.RemovingLine.{childless}
 use Rattle.wm_model.proofs.RollingLine.{named_numbered}
-use Rattle.wm_model.specs.Merged.{Merges, after_edits, is_even_at, keep_edits, leaving_refusal, merge_edits, replay_edits}
-use Rattle.wm_model.specs.Step.{Asked, first_fault}
+use Rattle.wm_model.specs.Merged.{Merges, after_edits, is_even_at, keep_edits, leaving_refusal, merge_edits, rebase_edits, replay_edits}
+use Rattle.wm_model.specs.Step.{Asked, first_fault, unlock_edits}
 use Rattle.wm_model.specs.Undone.{going_refusal, removing_refusal, resolving_refusal}
 use Rattle.wm_merge.proofs.Asked.{can_draft, can_gain, can_replay, can_work, few_gains, other_number, parent_there, some_entries}
 use Rattle.wm_merge.proofs.Answered.{turn_free}
@@ -48,10 +48,14 @@ gain_is : (none : Bool) (n : ℕ) (entries : Vec NewEntry Global) → (if none t
 gain_is true n entries = refl
 gain_is false n entries = refl
 
-leave_is : (removes even : Bool) (n : ℕ) (entries : Vec NewEntry Global) → after_edits removes even n entries ≡ edited.leave_edits n (leaving removes even entries)
-leave_is true even n entries = refl
-leave_is false true n entries = refl
-leave_is false false n entries = ap (λ (es : List Edit). edits.Rebase n true ∷ es) (gain_is (length entries.items == 0) n entries)
+-- what goes of the locks where the workspace stays
+abbrev unlocks : Bool → List ℕ → List Edit
+unlocks removes makings = if removes then [] else unlock_edits makings
+
+leave_is : (removes even : Bool) (n : ℕ) (entries : Vec NewEntry Global) (makings : List ℕ) → after_edits removes even n entries makings ≡ edited.leave_edits n (leaving removes even entries) ++ unlocks removes makings
+leave_is true even n entries makings = refl
+leave_is false true n entries makings = refl
+leave_is false false n entries makings = ap (λ (es : List Edit). edits.Rebase n true ∷ (es ++ unlock_edits makings)) (gain_is (length entries.items == 0) n entries)
 
 replay_is : (none : Bool) (n : ℕ) (own : Vec NewEntry Global) (es : List Edit) → (if none then [] else edits.Replay n own ∷ []) ++ es ≡ edited.bringing (edits.Replay n) (present none own) es
 replay_is true n own es = refl
@@ -61,11 +65,26 @@ keep_is : (keeps : Bool) (n : ℕ) (es : List Edit) → keep_edits keeps n ++ es
 keep_is true n es = refl
 keep_is false n es = refl
 
-merge_is : (asked : Asked) (even : Bool) (n parent : ℕ) (own entries : Vec NewEntry Global) → merge_edits asked even n parent own entries ≡ edited.merge_edits parent n (merging asked even own entries)
-merge_is asked even n parent own entries =
-    ap (λ (es : List Edit). keep_edits asked.keeps parent ++ (replay_edits parent own ++ es)) (leave_is asked.removes even n entries)
-    ∙ ap (λ (es : List Edit). keep_edits asked.keeps parent ++ es) (replay_is (length own.items == 0) parent own (edited.leave_edits n (leaving asked.removes even entries)))
-    ∙ keep_is asked.keeps parent (edited.bringing (edits.Replay parent) (present (length own.items == 0) own) (edited.leave_edits n (leaving asked.removes even entries)))
+merge_is : (asked : Asked) (even : Bool) (n parent : ℕ) (own entries : Vec NewEntry Global) (makings : List ℕ)
+    → merge_edits asked even n parent own entries makings ≡ edited.merge_edits parent n (merging asked even own entries) ++ unlocks asked.removes makings
+merge_is asked even n parent own entries makings =
+    let leave = edited.leave_edits n (leaving asked.removes even entries) in
+    let gone = unlocks asked.removes makings in
+    ap (λ (es : List Edit). keep_edits asked.keeps parent ++ (replay_edits parent own ++ es)) (leave_is asked.removes even n entries makings)
+    ∙ ap (λ (es : List Edit). keep_edits asked.keeps parent ++ es) (sym (append_assoc (replay_edits parent own) leave gone))
+    ∙ sym (append_assoc (keep_edits asked.keeps parent) (replay_edits parent own ++ leave) gone)
+    ∙ ap (λ (es : List Edit). (keep_edits asked.keeps parent ++ es) ++ gone) (replay_is (length own.items == 0) parent own leave)
+    ∙ ap (λ (es : List Edit). es ++ gone) (keep_is asked.keeps parent (edited.bringing (edits.Replay parent) (present (length own.items == 0) own) leave))
+
+-- locks may go behind whatever may be made
+can_unlock : (m : ℕ) (makings : List ℕ) (rs : List Stored) → CanEditAll rs m (unlock_edits makings)
+can_unlock m [] rs = tt
+can_unlock m (making ∷ makings) rs = (tt, λ work changes drafts. tt)
+
+can_unlocks : (m : ℕ) (removes : Bool) (makings : List ℕ) (es : List Edit) (rs : List Stored) → CanEditAll rs m es → CanEditAll rs m (es ++ unlocks removes makings)
+can_unlocks m true makings [] rs can = tt
+can_unlocks m false makings [] rs can = can_unlock m makings rs
+can_unlocks m removes makings (e ∷ es) rs can = (can.0, λ work changes drafts. can_unlocks m removes makings es (applied changes rs) (can.1 work changes drafts))
 
 -- ---- how many they are
 
@@ -77,18 +96,25 @@ few_replays : (none : Bool) (n : ℕ) (own : Vec NewEntry Global) → length (if
 few_replays true n own = omega arith
 few_replays false n own = omega arith
 
-few_after : (removes even : Bool) (n : ℕ) (entries : Vec NewEntry Global) → length (after_edits removes even n entries) ≤ 2
-few_after true even n entries = omega arith
-few_after false true n entries = omega arith
-few_after false false n entries = omega (arith, few_gains n entries)
+few_rebases : (even : Bool) (n : ℕ) (entries : Vec NewEntry Global) → length (rebase_edits even n entries) ≤ 2
+few_rebases true n entries = omega arith
+few_rebases false n entries = omega (arith, few_gains n entries)
 
-few_merges : (asked : Asked) (even : Bool) (n parent : ℕ) (own entries : Vec NewEntry Global) → length (merge_edits asked even n parent own entries) ≤ 2048
-few_merges asked even n parent own entries =
-    few (length (keep_edits asked.keeps parent)) (length (replay_edits parent own)) (length (after_edits asked.removes even n entries)) (length (replay_edits parent own ++ after_edits asked.removes even n entries))
-    (length (merge_edits asked even n parent own entries)) (length-append (keep_edits asked.keeps parent) (replay_edits parent own ++ after_edits asked.removes even n entries))
-    (length-append (replay_edits parent own) (after_edits asked.removes even n entries)) (few_keeps asked.keeps parent) (few_replays (length own.items == 0) parent own) (few_after asked.removes even n entries)
+few_unlocks : (makings : List ℕ) → length (unlock_edits makings) ≤ 1
+few_unlocks [] = omega arith
+few_unlocks (making ∷ makings) = omega arith
+
+few_after : (removes even : Bool) (n : ℕ) (entries : Vec NewEntry Global) (makings : List ℕ) → length (after_edits removes even n entries makings) ≤ 3
+few_after true even n entries makings = omega arith
+few_after false even n entries makings = omega (arith, length-append (rebase_edits even n entries) (unlock_edits makings), few_rebases even n entries, few_unlocks makings)
+
+few_merges : (asked : Asked) (even : Bool) (n parent : ℕ) (own entries : Vec NewEntry Global) (makings : List ℕ) → length (merge_edits asked even n parent own entries makings) ≤ 2048
+few_merges asked even n parent own entries makings =
+    few (length (keep_edits asked.keeps parent)) (length (replay_edits parent own)) (length (after_edits asked.removes even n entries makings)) (length (replay_edits parent own ++ after_edits asked.removes even n entries makings))
+    (length (merge_edits asked even n parent own entries makings)) (length-append (keep_edits asked.keeps parent) (replay_edits parent own ++ after_edits asked.removes even n entries makings))
+    (length-append (replay_edits parent own) (after_edits asked.removes even n entries makings)) (few_keeps asked.keeps parent) (few_replays (length own.items == 0) parent own) (few_after asked.removes even n entries makings)
   where
-    few : (k r l rest all : ℕ) → all ≡ k + rest → rest ≡ r + l → k ≤ 1 → r ≤ 1 → l ≤ 2 → all ≤ 2048
+    few : (k r l rest all : ℕ) → all ≡ k + rest → rest ≡ r + l → k ≤ 1 → r ≤ 1 → l ≤ 3 → all ≤ 2048
     few k r l rest all e f a b c = omega (arith, e, f, a, b, c)
 
 -- ---- what is asked
@@ -107,7 +133,7 @@ module _ (rs : List Stored) (m : ℕ) (xs : List Session) (session : Session) (a
   rules = merges.family.space.rules
 
   clear : MergeClear asked (parts_of rs) xs a b (map entry_of own.items)
-  clear = merge_clear asked (parts_of rs) xs a b merges.found (map entry_of own.items) merges.clear
+  clear = merge_clear session asked (parts_of rs) xs a b merges.found (map entry_of own.items) merges.clear
 
   -- of the parent
   replays : (given : Vec NewEntry Global) → present (length own.items == 0) own ≡ Some given → CanReplay (parts_of rs) b.number (map entry_of given.items)
@@ -158,7 +184,9 @@ module _ (rs : List Stored) (m : ℕ) (xs : List Session) (session : Session) (a
     leave = record { remove = removes; rebase = λ stays. rebases; gain = λ stays odd. gains };
   }
 
-  pub drafts_merge : Ascend rs → nat_lt counter_limit (c.work + line_work) ≡ false → nat_lt m END ≡ true → CanDraft rs m (merge_edits asked even a.number b.number own entries)
-  drafts_merge sorted spare early =
-      can_draft rs m (merge_edits asked even a.number b.number own entries) (merge_lockless asked even a.number b.number own entries) (can_work (parts_of rs) m c one spare early) (few_merges asked even a.number b.number own entries)
-      (subst (CanEditAll rs m) (sym (merge_is asked even a.number b.number own entries)) (can_merge rs m b.number a.number (merging asked even own entries) sorted rules can))
+  pub drafts_merge : (makings : List ℕ) → Ascend rs → nat_lt counter_limit (c.work + line_work) ≡ false → nat_lt m END ≡ true → CanDraft rs m (merge_edits asked even a.number b.number own entries makings)
+  drafts_merge makings sorted spare early =
+      can_draft rs m (merge_edits asked even a.number b.number own entries makings) (merge_lockless asked even a.number b.number own entries makings) (can_work (parts_of rs) m c one spare early)
+      (few_merges asked even a.number b.number own entries makings)
+      (subst (CanEditAll rs m) (sym (merge_is asked even a.number b.number own entries makings))
+      (can_unlocks m asked.removes makings (edited.merge_edits b.number a.number (merging asked even own entries)) rs (can_merge rs m b.number a.number (merging asked even own entries) sorted rules can)))

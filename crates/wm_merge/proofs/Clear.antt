@@ -13,7 +13,7 @@ use Rattle.wm_state.specs.Drafts.{CanKeep}
 use Rattle.wm_state.specs.Points.{implicit_of}
 use Rattle.wm_state.specs.Standing.{saved_in}
 use Rattle.wm_state.specs.State.{Session}
-use Rattle.wm_model.specs.Merged.{Clashed, clash_fault, is_even_at, keeping_refusal, leaving_refusal, merging_refusal, naming_refusal, rebase_fault, refreshing_refusal}
+use Rattle.wm_model.specs.Merged.{Clashed, clash_fault, is_even_at, keeping_refusal, leaving_refusal, merge_lock_refusal, merging_refusal, naming_refusal, rebase_fault, refreshing_refusal}
 use Rattle.wm_model.specs.Undone.{resolving_refusal}
 use Rattle.wm_model.specs.Step.{Asked, at_its_end, first_fault, most_savepoints, number_limit, refused_if, savepoint_there}
 use Rattle.wm_spec.specs.Lists.{Entry}
@@ -53,18 +53,19 @@ pub record MergeClear (asked : Asked) (p : Parts) (xs : List Session) (a b : Spa
   pub keeping : keeping_refusal asked.keeps p b ≡ None
   pub rebasing : (if is_even_at a b own then None else rebase_fault a) ≡ None
 
-pub merge_clear : (asked : Asked) (p : Parts) (xs : List Session) (a b : Space) (found : Option Clashed) (own : List Entry) → merging_refusal asked p xs a b found own ≡ None → MergeClear asked p xs a b own
-merge_clear asked p xs a b found own clear =
+pub merge_clear : (session : Session) (asked : Asked) (p : Parts) (xs : List Session) (a b : Space) (found : Option Clashed) (own : List Entry) → merging_refusal session asked p xs a b found own ≡ None → MergeClear asked p xs a b own
+merge_clear session asked p xs a b found own clear =
     let h = none_behind (naming_refusal asked.keeps p b) _ clear in
     let k = none_behind (leaving_refusal asked.removes p xs a) _ h in
     let s = none_behind (resolving_refusal xs a) _ k in
     let l = none_behind (clash_fault p found) _ s in
-    let r = none_behind (keeping_refusal asked.keeps p b) _ l in
+    let t = none_behind (merge_lock_refusal session p a b own) _ l in
+    let r = none_behind (keeping_refusal asked.keeps p b) _ t in
     record {
       naming = none_first (naming_refusal asked.keeps p b) _ clear;
       leaving = none_first (leaving_refusal asked.removes p xs a) _ h;
       resolving = none_first (resolving_refusal xs a) _ k;
-      keeping = none_first (keeping_refusal asked.keeps p b) _ l;
+      keeping = none_first (keeping_refusal asked.keeps p b) _ t;
       rebasing = none_first (if is_even_at a b own then None else rebase_fault a) _ r;
     }
 

@@ -6,7 +6,7 @@ use Rattle.std.specs.List.{list_all, list_any}
 use Rattle.wm_base.specs.declared.memory.Memory.{Memory}
 use Rattle.wm_base.specs.declared.refusal.Refusal.{Refusal}
 use Rattle.wm_graph.specs.Parts.{Parts, parts_of}
-use Rattle.wm_model.specs.Merged.{Clashed, Merges, NamesFamily, is_even_at, is_ready_entry, merging_refusal}
+use Rattle.wm_model.specs.Merged.{Clashed, Merges, NamesFamily, is_even_at, is_idle_at, is_ready_entry, merging_refusal}
 use Rattle.wm_model.specs.Step.{Asked, merge_workspace}
 use Rattle.wm_plan.specs.Planning.{DoesIt}
 use Rattle.wm_plan.specs.declared.planned.Planned.{Planned}
@@ -48,10 +48,16 @@ module _ (rs : List Stored) (a : Space) (given_own own given es : List NewEntry)
 pub even_told : (a b : Space) (given own : List NewEntry) (even : Bool) → given ≡ own → even ≡ is_even_at a b (map entry_of given) → even ≡ is_even_at a b (map entry_of own)
 even_told a b given own even is test = test ∙ ap (λ xs. is_even_at a b (map entry_of xs)) is
 
+-- whether there is nothing to do
+pub idle_told : (asked : Asked) (a b : Space) (own : List NewEntry) (even : Bool) (given listed makings : List ℕ) (test : Bool) → even ≡ is_even_at a b (map entry_of own) → given ≡ listed → listed ≡ makings → test ≡ is_idle_at asked even given
+    → is_idle_at asked (is_even_at a b (map entry_of own)) makings ≡ test
+idle_told asked a b own even given listed makings test is same known told =
+    ap (λ e. is_idle_at asked e makings) (sym is) ∙ ap (is_idle_at asked even) (sym (same ∙ known)) ∙ sym told
+
 -- what a merge is refused for
-pub refusal_told : (asked : Asked) (p : Parts) (xs : List Session) (a b : Space) (found : Option Clashed) (given own : List NewEntry) (told is : Option Refusal) → given ≡ own → told ≡ merging_refusal asked p xs a b found (map entry_of given)
-    → told ≡ is → merging_refusal asked p xs a b found (map entry_of own) ≡ is
-refusal_told asked p xs a b found given own told is same test says = ap (λ ys. merging_refusal asked p xs a b found (map entry_of ys)) (sym same) ∙ sym test ∙ says
+pub refusal_told : (session : Session) (asked : Asked) (p : Parts) (xs : List Session) (a b : Space) (found : Option Clashed) (given own : List NewEntry) (told is : Option Refusal) → given ≡ own → told ≡ merging_refusal session asked p xs a b found (map entry_of given)
+    → told ≡ is → merging_refusal session asked p xs a b found (map entry_of own) ≡ is
+refusal_told session asked p xs a b found given own told is same test says = ap (λ ys. merging_refusal session asked p xs a b found (map entry_of ys)) (sym same) ∙ sym test ∙ says
 
 -- both logs have room where the longer one has
 pub room_of : (limit k l : ℕ) → nat_lt limit (max k l) ≡ false → (nat_lt limit k ≡ false) × (nat_lt limit l ≡ false)

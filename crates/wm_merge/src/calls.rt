@@ -11,7 +11,7 @@ ghost use Rattle.wm_merge.specs.Views.{asked_view};
 ghost use Rattle.wm_model.specs.Step.{call, merge_asked};
 ghost use Rattle.wm_plan.specs.Idle.{Idles};
 ghost use Rattle.wm_plan.specs.Planning.{DoesIt};
-ghost use Rattle.wm_spending.specs.Nets.{AreNets};
+ghost use Rattle.wm_spending.specs.Nets.{AreNets, merge_of, refresh_of};
 
 use crate::merging::{Asked, merge_workspace};
 use crate::refreshing::refresh_workspace;
@@ -39,7 +39,7 @@ pub fn refresh_call(
     requires moment { moment < END }
     ensures does { IfOk result (λ p. DoesIt image.now sessions.now moment p (call session.now (Some procedures.RefreshWorkspace) args.now)) }
     ensures idle { IfOk result Idles }
-    ensures nets { IfOk result (λ p. AreNets image.now (unwrap_or (text_given procedures.RefreshWorkspace args.now parameters.Workspace) []) p.edits.items) }
+    ensures nets { IfOk result (λ p. AreNets image.now (refresh_of (unwrap_or (text_given procedures.RefreshWorkspace args.now parameters.Workspace) [])) p.edits.items) }
 {
     if let Some(parameter) = fault_of(alloc, Procedure::RefreshWorkspace, args)? {
         return Ok(Planned::answered(alloc, mistyped(parameter)));
@@ -71,7 +71,7 @@ pub fn merge_call(
     requires moment { moment < END }
     ensures does { IfOk result (λ p. DoesIt image.now sessions.now moment p (call session.now (Some procedures.MergeWorkspace) args.now)) }
     ensures idle { IfOk result Idles }
-    ensures nets { is_true_given procedures.MergeWorkspace args.now parameters.RemoveWorkspace ≡ false → IfOk result (λ p. AreNets image.now (unwrap_or (text_given procedures.MergeWorkspace args.now parameters.Workspace) []) p.edits.items) }
+    ensures nets { is_true_given procedures.MergeWorkspace args.now parameters.RemoveWorkspace ≡ false → IfOk result (λ p. AreNets image.now (merge_of (unwrap_or (text_given procedures.MergeWorkspace args.now parameters.Workspace) [])) p.edits.items) }
 {
     if let Some(parameter) = fault_of(alloc, Procedure::MergeWorkspace, args)? {
         return Ok(Planned::answered(alloc, mistyped(parameter)));

@@ -4,6 +4,7 @@
 pub mod calls;
 mod conflict;
 mod leaving;
+mod locks;
 mod merging;
 mod ready;
 mod refreshing;

@@ -15,7 +15,7 @@ ghost use Rattle.wm_plan.specs.Views.{answer_view};
 ghost use Rattle.wm_plan.specs.declared.answer.Answer.TheVariants as answers;
 ghost use Rattle.wm_print.specs.Texts.{Fine, Refused};
 ghost use Rattle.wm_spec.specs.declared.record.space.Space.{Space as SpaceRecord};
-ghost use Rattle.wm_spending.specs.Nets.{AreNets};
+ghost use Rattle.wm_spending.specs.Nets.{AreNets, refresh_of};
 ghost use Rattle.wm_state.specs.Editing.{entry_of};
 ghost use Rattle.wm_state.specs.State.{Session as SessionState};
 ghost use Rattle.wm_telling.specs.Telling.{AreFamily, AreOwn};
@@ -157,7 +157,7 @@ fn refresh_pending(
     requires pending { is_quiet_at space.now parent.now ≡ false }
     ensures does { IfOk result (λ p. (workspace : List ℕ) → NamesFamily image.now workspace space.now parent.now → DoesIt image.now sessions.now moment p (refresh_workspace session.now workspace)) }
     ensures idle { IfOk result Idles }
-    ensures nets { IfOk result (λ p. (workspace : List ℕ) → NamesFamily image.now workspace space.now parent.now → AreNets image.now workspace p.edits.items) }
+    ensures nets { IfOk result (λ p. (workspace : List ℕ) → NamesFamily image.now workspace space.now parent.now → AreNets image.now (refresh_of workspace) p.edits.items) }
 {
     let own = own_pieces(alloc, image, space)?;
     let found = first_clash(alloc, image, space, parent, own.as_slice())?;
@@ -183,7 +183,7 @@ pub fn refresh_workspace(
     ensures does { IfOk result (λ p. DoesIt image.now sessions.now moment p (refresh_workspace session.now name.now)) }
     ensures idle { IfOk result Idles }
     // It makes no edits but those of a refresh.
-    ensures nets { IfOk result (λ p. AreNets image.now name.now p.edits.items) }
+    ensures nets { IfOk result (λ p. AreNets image.now (refresh_of name.now) p.edits.items) }
 {
     let Some(space) = image.space_named(name) else {
         return Ok(Planned::answered(alloc, no_workspace(Name::copy_of(alloc, name)?)));

@@ -1,5 +1,5 @@
 -- A merge or a refresh that removes nothing changes eight records at most, eight for each stretch of what is own or pending, and each mark
--- of the workspace.
+-- of the workspace; a merge each of its locks too.
 use Rattle.std.proofs.Common.{◌≡◌, ℕ, ◌+◌, ◌*◌, ◌<◌, ◌≤◌, ◌==◌, Bool, true, false, not, ◌&&◌, if◌then◌else◌, List, [], ◌∷◌, ◌++◌, drop, map, length, zero, suc, Option, Some, None, is_some, unwrap_or, refl, sym, ap, subst, ◌∙◌, arith}
 use Rattle.std.proofs.lemmas.Bool.{ne_eqb, and_parts, or_right, true≢false}
 use Rattle.std.specs.List.{filter}
@@ -9,9 +9,9 @@ use Rattle.std.specs.declared.vec.Vec.{Vec}
 use Rattle.wm_graph.specs.Parts.{parts_of}
 use Rattle.wm_model.proofs.Families.{Family, family, gained_same, own_same}
 use Rattle.wm_model.proofs.RollingLine.{home}
-use Rattle.wm_model.specs.Merged.{after_edits, keep_edits, merge_edits, refresh_edits, replay_edits}
+use Rattle.wm_model.specs.Merged.{after_edits, keep_edits, makings_of, merge_edits, rebase_edits, refresh_edits, replay_edits}
 use Rattle.wm_model.specs.Planning.{StandsAt}
-use Rattle.wm_model.specs.Step.{Asked, parent_in, pending}
+use Rattle.wm_model.specs.Step.{Asked, parent_in, pending, unlock_edits}
 use Rattle.wm_model.specs.Undone.{NamesSpace}
 use Rattle.wm_net.proofs.Cutting.{IsSteady-touched, has_cuts-before, has_cuts-behind, has_cuts-first, has_cuts-itself}
 use Rattle.wm_net.proofs.Measuring.{IsSteady-alone, alone_count, gained_count, net_count, touched_alone}
@@ -20,10 +20,11 @@ use Rattle.wm_net.specs.Counts.{cut_count, has_cuts, is_end}
 use Rattle.wm_net.specs.Nets.{gained}
 use Rattle.wm_prices.proofs.Beside.{beside_same, beside_then, beside_wider, few_more}
 use Rattle.wm_prices.proofs.Heads.{changes_in_all, is_either}
-use Rattle.wm_prices.specs.Prices.{ChangesAtMost, ChangesBeside, Spends, is_head, marks_at}
+use Rattle.wm_prices.specs.Prices.{ChangesAtMost, ChangesBeside, Spends, holds_counters, is_head, marks_at}
 use Rattle.wm_spec.specs.Lists.{Cell, Entry, Told, told, touched}
 use Rattle.wm_spec.specs.Records.{record_at}
 use Rattle.wm_spec.specs.declared.record.Record.{Record}
+use Rattle.wm_spec.specs.declared.record.Record.TheVariants as records
 use Rattle.wm_spec.specs.declared.record.space.Space.{Space}
 use Rattle.wm_spec.specs.declared.record.stored.Stored.{Stored}
 use Rattle.wm_spec.specs.declared.record.trace.Trace.{Trace}
@@ -33,10 +34,10 @@ use Rattle.wm_state.specs.State.{Durable, Session, State, Workspace, fresh_live,
 use Rattle.wm_state.specs.declared.edit.Edit.{Edit}
 use Rattle.wm_state.specs.declared.edit.NewEntry.{NewEntry}
 use Rattle.wm_telling.specs.Telling.{IsHeldListing, gained_held, own_held}
-use Rattle.wm_spending.specs.Nets.{AreNets, Merge, Nothing, Refresh}
-use Rattle.wm_spending.specs.Stretches.{all_entries, mark_count, stretch_count, stretches_of}
+use Rattle.wm_spending.specs.Nets.{AreNets, Merge, Net, Nothing, Refresh}
+use Rattle.wm_spending.specs.Stretches.{all_entries, going_count, stretch_count, stretches_of}
 use Rattle.wm_spending.proofs.Ends.{EndIn, end_first, end_second, end_then}
-use Rattle.wm_spending.proofs.Priced.{gain_priced, keep_priced, parted, rebase_bare, rebase_priced, replay_priced}
+use Rattle.wm_spending.proofs.Priced.{gain_priced, keep_priced, parted, rebase_bare, rebase_priced, replay_priced, unlock_priced}
 use Rattle.wm_spending.proofs.Steps.{IsAt}
 
 -- ---- entries that a list loses
@@ -61,6 +62,10 @@ left_head n m r is = rw is refl
 right_head : (n m : ℕ) (r : Record) → is_head m r ≡ true → is_either n m r ≡ true
 right_head n m r is = or_right (is_head n r) (is_head m r) is
 
+counters_head : (n m : ℕ) (r : Record) → holds_counters r ≡ true → is_either n m r ≡ true
+counters_head n m (records.Counters c) is = refl
+counters_head n m _ is = absurd (true≢false (sym is))
+
 -- ---- a workspace beside its parent
 
 module _ (rs : List Stored) (workspace : List ℕ) (a b : Space) (s : State) (f : Family rs workspace a b s) where
@@ -83,6 +88,10 @@ module _ (rs : List Stored) (workspace : List ℕ) (a b : Space) (s : State) (f 
 
   together : own_count + alone ≤ stretches_of f.q f.w
   together = alone_count all f.w.lists.own behind
+
+  -- the makings of the locks that go
+  abbrev makings : List ℕ
+  makings = makings_of a.number (parts_of rs).locks
 
   -- where their entries end
   own_cut : has_cuts all f.w.lists.own ≡ true
@@ -160,33 +169,35 @@ module _ (rs : List Stored) (workspace : List ℕ) (a b : Space) (s : State) (f 
 
   merge_few : (m user_moment : ℕ) (user : List ℕ) (asked : Asked) (even : Bool) (own gained : Vec NewEntry Global) (new : List Stored) → asked.removes ≡ false
       → IsHeldListing (parts_of rs) user_moment user (own_held (parts_of rs) a) (map entry_of own.items) → IsHeldListing (parts_of rs) user_moment user (gained_held (parts_of rs) a b) (map entry_of gained.items)
-      → Spends m rs (merge_edits asked even a.number b.number own gained) new → ChangesBeside (is_either b.number a.number) (1 + (1 + 6 * own_count) + (2 + marks + 5 * alone)) rs new
+      → Spends m rs (merge_edits asked even a.number b.number own gained makings) new → ChangesBeside (is_either b.number a.number) (1 + (1 + 6 * own_count) + (2 + marks + 5 * alone) + length makings) rs new
   merge_few m user_moment user asked even own gained new stays own_listed gained_listed spends =
-      let one = parted m rs (keep_edits asked.keeps b.number) (replay_edits b.number own ++ after_edits asked.removes even a.number gained) new spends in
-      let two = parted m one.between (replay_edits b.number own) (after_edits asked.removes even a.number gained) new one.rest in
+      let one = parted m rs (keep_edits asked.keeps b.number) (replay_edits b.number own ++ after_edits asked.removes even a.number gained makings) new spends in
+      let two = parted m one.between (replay_edits b.number own) (after_edits asked.removes even a.number gained makings) new one.rest in
+      let three = parted m two.between (rebase_edits even a.number gained) (unlock_edits makings) new (subst (λ r. Spends m two.between (after_edits r even a.number gained makings) new) stays two.rest) in
       let kept = keep_priced m a.number b.number asked.keeps rs one.between s.durable f.w.lists.log f.q.lists.log f.w.parent f.q.parent f.beside.stands space_at parent_at one.first in
       let replayed = replay_priced m a.number b.number own one.between two.between kept.state f.w.lists.log f.q.lists.log f.w.parent f.q.parent all (touched f.w.lists.own) apart kept.stands kept.known.0 kept.known.1 above_ends
       (IsSteady-touched all f.w.lists.own own_cut) (own_covered user_moment user (map entry_of own.items) own_listed) (own_few user_moment user (map entry_of own.items) own_listed) two.first in
       let found = replayed.known.1 in
-      beside_then wide (1 + (1 + 6 * own_count)) (2 + marks + 5 * alone) rs two.between new
+      beside_then wide (1 + (1 + 6 * own_count) + (2 + marks + 5 * alone)) (length makings) rs three.between new
+      (beside_then wide (1 + (1 + 6 * own_count)) (2 + marks + 5 * alone) rs two.between three.between
       (beside_then wide 1 (1 + 6 * own_count) rs one.between two.between (beside_wider (is_head b.number) wide 1 rs one.between (left_head b.number a.number) kept.changes)
       (beside_wider (is_head b.number) wide (1 + 6 * own_count) one.between two.between (left_head b.number a.number) replayed.changes))
-      (subst (λ k. ChangesBeside wide (2 + k + 5 * alone) two.between new) (ap (λ (xs : List Trace). length (filter (λ (x : Trace). x.space == a.number) xs)) (replayed.known.2 ∙ kept.known.2))
-      (behind_few even two.between replayed.state replayed.stands replayed.known.0 found.0 (ap (workspace_of replayed.state.spaces) parent_number ∙ found.1)
-      (subst (λ r. Spends m two.between (after_edits r even a.number gained) new) stays two.rest)))
+      (subst (λ k. ChangesBeside wide (2 + k + 5 * alone) two.between three.between) (ap (λ (xs : List Trace). length (filter (λ (x : Trace). x.space == a.number) xs)) (replayed.known.2 ∙ kept.known.2))
+      (behind_few even two.between three.between replayed.state replayed.stands replayed.known.0 found.0 (ap (workspace_of replayed.state.spaces) parent_number ∙ found.1) three.first)))
+      (beside_wider holds_counters wide (length makings) three.between new (counters_head b.number a.number) (unlock_priced m makings three.between new three.rest))
     where
       wide : Record → Bool
       wide = is_either b.number a.number
 
-      behind_few : (same : Bool) (mid : List Stored) (d : Durable) → Stands (parts_of mid) d → IsAt d.spaces a.number f.w.lists.log f.w.parent → (p : Workspace) → workspace_of d.spaces f.w.parent ≡ Some p → Spends m mid (after_edits false same a.number gained) new
-          → ChangesBeside wide (2 + length (marks_at (parts_of mid) a.number) + 5 * alone) mid new
-      behind_few true mid d st at p above spent = few_more wide 0 (2 + length (marks_at (parts_of mid) a.number) + 5 * alone) mid new (omega arith) (beside_same wide mid new spent)
-      behind_few false mid d st at p above spent =
+      behind_few : (same : Bool) (mid end : List Stored) (d : Durable) → Stands (parts_of mid) d → IsAt d.spaces a.number f.w.lists.log f.w.parent → (p : Workspace) → workspace_of d.spaces f.w.parent ≡ Some p → Spends m mid (rebase_edits same a.number gained) end
+          → ChangesBeside wide (2 + length (marks_at (parts_of mid) a.number) + 5 * alone) mid end
+      behind_few true mid end d st at p above spent = few_more wide 0 (2 + length (marks_at (parts_of mid) a.number) + 5 * alone) mid end (omega arith) (beside_same wide mid end spent)
+      behind_few false mid end d st at p above spent =
           let first = rebase_bare m a.number mid spent.next d f.w.lists.log f.w.parent p st at above spent.spent in
-          let second = gain_priced m a.number gained spent.next new first.state f.w.lists.log f.w.parent all (touched_alone f.w.lists.own behind) first.stands first.known log_ends (IsSteady-alone all f.w.lists.own behind own_cut behind_cut)
+          let second = gain_priced m a.number gained spent.next end first.state f.w.lists.log f.w.parent all (touched_alone f.w.lists.own behind) first.stands first.known log_ends (IsSteady-alone all f.w.lists.own behind own_cut behind_cut)
           (gained_covered user_moment user (map entry_of gained.items) gained_listed) (gained_few user_moment user (map entry_of gained.items) gained_listed) spent.rest in
-          beside_then wide (2 + length (marks_at (parts_of mid) a.number)) (5 * alone) mid spent.next new (beside_wider (is_head a.number) wide (2 + length (marks_at (parts_of mid) a.number)) mid spent.next (right_head b.number a.number) first.changes)
-          (beside_wider (is_head a.number) wide (5 * alone) spent.next new (right_head b.number a.number) second)
+          beside_then wide (2 + length (marks_at (parts_of mid) a.number)) (5 * alone) mid spent.next end (beside_wider (is_head a.number) wide (2 + length (marks_at (parts_of mid) a.number)) mid spent.next (right_head b.number a.number) first.changes)
+          (beside_wider (is_head a.number) wide (5 * alone) spent.next end (right_head b.number a.number) second)
 
 -- ---- and the stretches of the workspace of a name
 
@@ -200,39 +211,42 @@ counted_for w q s name named child above =
     ∙ ap {B = ℕ} (λ t. if t then 0 else stretches_of (parent_in s w) w) child
     ∙ ap (λ (p : Workspace). stretches_of p w) above
 
--- and the marks of its records
-marks_for : (rs : List Stored) (name : List ℕ) (a : Space) → NamesSpace rs name a → mark_count rs name ≡ length (marks_at (parts_of rs) a.number)
-marks_for rs name a names = ap {B = ℕ} (λ (o : Option Space). option_map_or (λ (r : Space). length (marks_at (parts_of rs) r.number)) o 0) names.found
+-- and the marks and the locks of its records
+going_for : (rs : List Stored) (net : Net) (merges : Bool) (a : Space) → NamesSpace rs net.workspace a → net.merges ≡ merges
+    → going_count rs net ≡ length (marks_at (parts_of rs) a.number) + (if merges then length (makings_of a.number (parts_of rs).locks) else 0)
+going_for rs net merges a names is =
+    ap {B = ℕ} (λ (o : Option Space). option_map_or (λ (r : Space). length (marks_at (parts_of rs) r.number) + (if net.merges then length (makings_of r.number (parts_of rs).locks) else 0)) o 0) names.found
+    ∙ ap {B = ℕ} (λ t. length (marks_at (parts_of rs) a.number) + (if t then length (makings_of a.number (parts_of rs).locks) else 0)) is
 
-pub spends_few : (rs new : List Stored) (xs : List Session) (m m_plan : ℕ) (name : List ℕ) (edits : List Edit) (s : State) → StandsAt rs xs m_plan s → AreNets rs name edits → Spends m rs edits new → ChangesAtMost (8 + 8 * stretch_count s name + mark_count rs name) rs new
-spends_few rs new xs m m_plan name edits s st (Nothing none) spends = record {
+pub spends_few : (rs new : List Stored) (xs : List Session) (m m_plan : ℕ) (net : Net) (edits : List Edit) (s : State) → StandsAt rs xs m_plan s → AreNets rs net edits → Spends m rs edits new → ChangesAtMost (8 + 8 * stretch_count s net.workspace + going_count rs net) rs new
+spends_few rs new xs m m_plan net edits s st (Nothing none) spends = record {
   ids = [];
   few = omega arith;
   others = λ id out. ap (λ (ss : List Stored). record_at ss id) (subst (λ (es : List Edit). Spends m rs es new) none spends);
 }
-spends_few rs new xs m m_plan name edits s st (Refresh r) spends =
+spends_few rs new xs m m_plan net edits s st (Refresh refreshes r) spends =
     let a = r.space in
     let b = r.parent in
-    let f = family rs xs m_plan name a b s r.family st in
-    let h = home rs xs m_plan name a s r.family.space st in
-    let few = refresh_few rs name a b s f m r.moment r.user r.gained new r.listed (subst (λ (es : List Edit). Spends m rs es new) r.are spends) in
-    let all = together rs name a b s f in
-    let is = counted_for f.w f.q s name (h.named ∙ sym h.is.found ∙ f.is.found) (child f.w.number a.number f.is.number f.child) (ap (λ (o : Option Workspace). unwrap_or o fresh_live) f.beside.above) in
-    let went = marks_for rs name a r.family.space in
-    at_most_more _ (8 + 8 * stretch_count s name + mark_count rs name) rs new (omega (arith, all, is, went)) (changes_in_all b.number a.number _ rs new st.stands.rules few)
+    let f = family rs xs m_plan net.workspace a b s r.family st in
+    let h = home rs xs m_plan net.workspace a s r.family.space st in
+    let few = refresh_few rs net.workspace a b s f m r.moment r.user r.gained new r.listed (subst (λ (es : List Edit). Spends m rs es new) r.are spends) in
+    let all = together rs net.workspace a b s f in
+    let is = counted_for f.w f.q s net.workspace (h.named ∙ sym h.is.found ∙ f.is.found) (child f.w.number a.number f.is.number f.child) (ap (λ (o : Option Workspace). unwrap_or o fresh_live) f.beside.above) in
+    let went = going_for rs net false a r.family.space refreshes in
+    at_most_more _ (8 + 8 * stretch_count s net.workspace + going_count rs net) rs new (omega (arith, all, is, went)) (changes_in_all b.number a.number _ rs new st.stands.rules few)
   where
     child : (k n : ℕ) → k ≡ n → 0 < n → (k == 0) ≡ false
     child k n same lt = ne_eqb k 0 (λ none. absurd (omega (arith, same, lt, none)))
-spends_few rs new xs m m_plan name edits s st (Merge r) spends =
+spends_few rs new xs m m_plan net edits s st (Merge merges r) spends =
     let a = r.space in
     let b = r.parent in
-    let f = family rs xs m_plan name a b s r.family st in
-    let h = home rs xs m_plan name a s r.family.space st in
-    let few = merge_few rs name a b s f m r.moment r.user r.asked r.even r.own r.gained new r.stays r.own_listed r.gained_listed (subst (λ (es : List Edit). Spends m rs es new) r.are spends) in
-    let all = together rs name a b s f in
-    let is = counted_for f.w f.q s name (h.named ∙ sym h.is.found ∙ f.is.found) (child f.w.number a.number f.is.number f.child) (ap (λ (o : Option Workspace). unwrap_or o fresh_live) f.beside.above) in
-    let went = marks_for rs name a r.family.space in
-    at_most_more _ (8 + 8 * stretch_count s name + mark_count rs name) rs new (omega (arith, all, is, went)) (changes_in_all b.number a.number _ rs new st.stands.rules few)
+    let f = family rs xs m_plan net.workspace a b s r.family st in
+    let h = home rs xs m_plan net.workspace a s r.family.space st in
+    let few = merge_few rs net.workspace a b s f m r.moment r.user r.asked r.even r.own r.gained new r.stays r.own_listed r.gained_listed (subst (λ (es : List Edit). Spends m rs es new) r.are spends) in
+    let all = together rs net.workspace a b s f in
+    let is = counted_for f.w f.q s net.workspace (h.named ∙ sym h.is.found ∙ f.is.found) (child f.w.number a.number f.is.number f.child) (ap (λ (o : Option Workspace). unwrap_or o fresh_live) f.beside.above) in
+    let went = going_for rs net true a r.family.space merges in
+    at_most_more _ (8 + 8 * stretch_count s net.workspace + going_count rs net) rs new (omega (arith, all, is, went)) (changes_in_all b.number a.number _ rs new st.stands.rules few)
   where
     child : (k n : ℕ) → k ≡ n → 0 < n → (k == 0) ≡ false
     child k n same lt = ne_eqb k 0 (λ none. absurd (omega (arith, same, lt, none)))

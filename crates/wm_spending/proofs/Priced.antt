@@ -6,9 +6,10 @@ use Rattle.std.specs.declared.alloc.Global.{Global}
 use Rattle.std.specs.declared.vec.Vec.{Vec}
 use Rattle.wm_graph.specs.Parts.{parts_of}
 use Rattle.wm_model.specs.Merged.{gain_edits, keep_edits, replay_edits}
+use Rattle.wm_model.specs.Step.{unlock_edits}
 use Rattle.wm_net.specs.Counts.{IsSteady, cut_count, has_cuts}
 use Rattle.wm_prices.proofs.Beside.{beside_same, few_more}
-use Rattle.wm_prices.specs.Prices.{ChangesBeside, KeepsMarks, Spends, Spent, is_head, marks_at, pieces_at, touch_price}
+use Rattle.wm_prices.specs.Prices.{ChangesBeside, KeepsMarks, Spends, Spent, holds_counters, is_head, marks_at, pieces_at, touch_price}
 use Rattle.wm_spec.specs.Lists.{Cell, Entry, touched}
 use Rattle.wm_spec.specs.declared.record.Record.{Record}
 use Rattle.wm_spec.specs.declared.record.stored.Stored.{Stored}
@@ -165,3 +166,8 @@ rebase_bare m n old new d log parent p st at above x =
       known = rebased_stays n true d n log parent at;
       changes = few_more (is_head n) (2 + length (pieces_at (parts_of new) (latest (parts_of new) n)) + length (marks_at (parts_of old) n)) (2 + length (marks_at (parts_of old) n)) old new (omega (arith, pieces)) x.costs;
     }
+
+-- locks that go: each of them
+pub unlock_priced : (m : ℕ) (makings : List ℕ) (old new : List Stored) → Spends m old (unlock_edits makings) new → ChangesBeside holds_counters (length makings) old new
+unlock_priced m [] old new spends = beside_same holds_counters old new spends
+unlock_priced m (making ∷ makings) old new spends = subst (ChangesBeside holds_counters (length (making ∷ makings)) old) (sym spends.rest) spends.spent.costs

@@ -1,2 +1,2 @@
-pub mod Stretches
 pub mod Nets
+pub mod Stretches

@@ -1,5 +1,5 @@
--- Into how many stretches the cells fall that a merge or a refresh is about, and how many marks go by it.
-use Rattle.std.specs.Prelude.{ℕ, ◌||◌, ◌==◌, if◌then◌else◌, List, ◌++◌, length}
+-- Into how many stretches the cells fall that a merge or a refresh is about, and how many marks and locks go by it.
+use Rattle.std.specs.Prelude.{ℕ, ◌+◌, ◌||◌, ◌==◌, if◌then◌else◌, List, ◌++◌, length}
 use Rattle.std.specs.List.{find}
 use Rattle.std.specs.Option.{option_map_or}
 use Rattle.std.specs.Str.{bytes_eq}
@@ -10,7 +10,9 @@ use Rattle.wm_spec.specs.Lists.{Cell, Entry, touched}
 use Rattle.wm_spec.specs.declared.record.space.Space.{Space}
 use Rattle.wm_spec.specs.declared.record.stored.Stored.{Stored}
 use Rattle.wm_state.specs.State.{State, Workspace, workspace_named}
+use Rattle.wm_model.specs.Merged.{makings_of}
 use Rattle.wm_model.specs.Step.{parent_in, pending}
+use Rattle.wm_spending.specs.Nets.{Net}
 
 -- the entries of all lists of a workspace
 abbrev pub all_entries : Workspace → List Entry
@@ -25,6 +27,6 @@ stretches_of p w = cut_count (all_entries w ++ all_entries p) (λ (c : Cell). to
 abbrev pub stretch_count : State → List ℕ → ℕ
 stretch_count s name = option_map_or (λ (w : Workspace). if w.number == 0 then 0 else stretches_of (parent_in s w) w) (workspace_named name s.durable.spaces) 0
 
--- how many records are marks of the workspace of a name; none where there is no such
-abbrev pub mark_count : List Stored → List ℕ → ℕ
-mark_count rs name = option_map_or (λ (a : Space). length (marks_at (parts_of rs) a.number)) (find (λ (r : Space). bytes_eq name r.name) (parts_of rs).spaces) 0
+-- how many records are marks of the workspace of a name and, where it is merged, locks there; none where there is no such
+abbrev pub going_count : List Stored → Net → ℕ
+going_count rs net = option_map_or (λ (a : Space). length (marks_at (parts_of rs) a.number) + (if net.merges then length (makings_of a.number (parts_of rs).locks) else 0)) (find (λ (r : Space). bytes_eq net.workspace r.name) (parts_of rs).spaces) 0

@@ -5,7 +5,7 @@ use Rattle.wm_plan.proofs.Planning.{does_here, refused}
 use Rattle.wm_plan.specs.Views.{answer_view}
 use Rattle.wm_merge.specs.Views.{asked_view}
 use Rattle.wm_merge.proofs.Calling.{merge_done, merge_mistyped}
-use Rattle.wm_spending.specs.Nets.{AreNets, Nothing}
+use Rattle.wm_spending.specs.Nets.{AreNets, Nothing, merge_of}
 use Rattle.wm_merge.proofs.calls.merge_call.Goals as goal
 
 pub returns-in-Some-clause-does : goal.returns-in-Some-clause-does
@@ -29,5 +29,5 @@ returns-in-Some-clause-nets c = λ stays. Nothing c.answered.ensures.edits
 
 pub returns-clause-nets : goal.returns-clause-nets
 returns-clause-nets c = λ stays.
-    subst (λ (w : List ℕ). IfOk c.merge_workspace.result (λ p. AreNets c.args.image.now w p.edits.items)) c.bytes_given-workspace.ensures
+    subst (λ (w : List ℕ). IfOk c.merge_workspace.result (λ p. AreNets c.args.image.now (merge_of w) p.edits.items)) c.bytes_given-workspace.ensures
     (c.merge_workspace.ensures.nets (ap (λ (a : Asked). a.removes) c.merge_asked-asked.ensures ∙ stays))

@@ -4,7 +4,7 @@ use Rattle.wm_model.specs.Step.{call, mistyped, refresh_workspace}
 use Rattle.wm_plan.proofs.Planning.{does_here, refused}
 use Rattle.wm_plan.specs.Views.{answer_view}
 use Rattle.wm_merge.proofs.Calling.{refresh_done, refresh_mistyped}
-use Rattle.wm_spending.specs.Nets.{AreNets, Nothing}
+use Rattle.wm_spending.specs.Nets.{AreNets, Nothing, refresh_of}
 use Rattle.wm_merge.proofs.calls.refresh_call.Goals as goal
 
 pub returns-in-Some-clause-does : goal.returns-in-Some-clause-does
@@ -26,4 +26,4 @@ pub returns-in-Some-clause-nets : goal.returns-in-Some-clause-nets
 returns-in-Some-clause-nets c = Nothing c.answered.ensures.edits
 
 pub returns-clause-nets : goal.returns-clause-nets
-returns-clause-nets c = subst (λ (w : List ℕ). IfOk c.refresh_workspace.result (λ p. AreNets c.args.image.now w p.edits.items)) c.bytes_given-workspace.ensures c.refresh_workspace.ensures.nets
+returns-clause-nets c = subst (λ (w : List ℕ). IfOk c.refresh_workspace.result (λ p. AreNets c.args.image.now (refresh_of w) p.edits.items)) c.bytes_given-workspace.ensures c.refresh_workspace.ensures.nets

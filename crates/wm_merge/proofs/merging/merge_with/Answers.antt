@@ -1,7 +1,8 @@
-use Rattle.std.proofs.Common.{[], ◌&&◌, ◌||◌, not, Bool, map, sym, ap, ◌∙◌, codes, inl, inr}
+use Rattle.std.proofs.Common.{[], ℕ, List, Bool, map, sym, ap, ◌∙◌, codes, inl, inr}
 use Rattle.std.proofs.lemmas.Result.{IfOk-weaker}
+use Rattle.wm_graph.specs.Parts.{parts_of}
 use Rattle.wm_model.proofs.MergingLine.{does_merge, merge_idle, merge_long, merge_spent, merge_unready}
-use Rattle.wm_model.specs.Merged.{freeing, is_even_at, merge_edits}
+use Rattle.wm_model.specs.Merged.{freeing, is_even_at, makings_of, merge_edits}
 use Rattle.wm_model.specs.Planning.{Stay}
 use Rattle.wm_model.specs.Step.{at_its_end, counter_limit, merge_workspace, not_built}
 use Rattle.wm_space.proofs.Ended.{told_ended}
@@ -12,15 +13,14 @@ use Rattle.wm_state.specs.Editing.{entry_of}
 use Rattle.wm_merge.specs.Views.{asked_view}
 use Rattle.wm_merge.proofs.Answered.{told_nothing}
 use Rattle.wm_merge.proofs.AskedMerge.{drafts_merge}
-use Rattle.wm_merge.proofs.MergePlans.{even_told, lacks_merge, may_merge, room_of}
+use Rattle.wm_merge.proofs.MergePlans.{even_told, idle_told, lacks_merge, may_merge, room_of}
 use Rattle.wm_merge.proofs.merging.merge_with.Goals as goal
 
 pub returns-then-is_idle-clause-does : goal.returns-then-is_idle-clause-does
 returns-then-is_idle-clause-does c = λ xs session workspace merges.
     told_nothing c.args.image.now xs c.args.moment c.answered.result Fine (merge_workspace session (asked_view c.args.asked) workspace) c.answered.ensures.edits c.answered.ensures.seating (ap answer_view c.answered.ensures.answer)
     (merge_idle c.args.image.now xs c.args.moment session workspace (asked_view c.args.asked) c.args.family.space.now c.args.family.parent.now (map entry_of c.args.brought.own.items) (map entry_of c.args.brought.gained.items) merges
-    (ap (λ e. e && not (c.args.asked.keeps || c.args.asked.removes)) (sym (even_told c.args.family.space.now c.args.family.parent.now c.as_slice.result.now c.args.brought.own.items c.is_even-even.result c.as_slice.ensures.value c.is_even-even.ensures))
-    ∙ sym c.if-is_idle.ensures))
+    (idle_told (asked_view c.args.asked) c.args.family.space.now c.args.family.parent.now c.args.brought.own.items c.is_even-even.result c.as_slice-2.result.now c.in_ok-makings.makings.items _ _ (even_told c.args.family.space.now c.args.family.parent.now c.as_slice.result.now c.args.brought.own.items c.is_even-even.result c.as_slice.ensures.value c.is_even-even.ensures) c.as_slice-2.ensures.value c.in_ok-makings.ensures c.if-is_idle.ensures))
 
 pub returns-then-are_long-clause-does : goal.returns-then-are_long-clause-does
 returns-then-are_long-clause-does c =
@@ -28,8 +28,7 @@ returns-then-are_long-clause-does c =
     (λ p edits seats says xs session workspace merges.
     told c.args.image.now xs c.args.moment p [] Stay (at_its_end (codes "LOG")) (merge_workspace session (asked_view c.args.asked) workspace) edits seats says
     (merge_long c.args.image.now xs c.args.moment session workspace (asked_view c.args.asked) c.args.family.space.now c.args.family.parent.now (map entry_of c.args.brought.own.items) (map entry_of c.args.brought.gained.items) merges
-    (ap (λ e. e && not (c.args.asked.keeps || c.args.asked.removes)) (sym (even_told c.args.family.space.now c.args.family.parent.now c.as_slice.result.now c.args.brought.own.items c.is_even-even.result c.as_slice.ensures.value c.is_even-even.ensures))
-    ∙ sym c.if-is_idle.ensures)
+    (idle_told (asked_view c.args.asked) c.args.family.space.now c.args.family.parent.now c.args.brought.own.items c.is_even-even.result c.as_slice-2.result.now c.in_ok-makings.makings.items _ _ (even_told c.args.family.space.now c.args.family.parent.now c.as_slice.result.now c.args.brought.own.items c.is_even-even.result c.as_slice.ensures.value c.is_even-even.ensures) c.as_slice-2.ensures.value c.in_ok-makings.ensures c.if-is_idle.ensures)
     (sym c.if-are_long.ensures)))
 
 pub returns-then-is_spent-clause-does : goal.returns-then-is_spent-clause-does
@@ -39,8 +38,7 @@ returns-then-is_spent-clause-does c =
     told c.args.image.now xs c.args.moment p [] Stay (at_its_end (codes "WORK")) (merge_workspace session (asked_view c.args.asked) workspace) edits seats says
     (merge_spent c.args.image.now xs c.args.moment session workspace (asked_view c.args.asked) c.args.family.space.now c.args.family.parent.now (map entry_of c.args.brought.own.items) (map entry_of c.args.brought.gained.items)
     c.counters.result merges
-    (ap (λ e. e && not (c.args.asked.keeps || c.args.asked.removes)) (sym (even_told c.args.family.space.now c.args.family.parent.now c.as_slice.result.now c.args.brought.own.items c.is_even-even.result c.as_slice.ensures.value c.is_even-even.ensures))
-    ∙ sym c.if-is_idle.ensures)
+    (idle_told (asked_view c.args.asked) c.args.family.space.now c.args.family.parent.now c.args.brought.own.items c.is_even-even.result c.as_slice-2.result.now c.in_ok-makings.makings.items _ _ (even_told c.args.family.space.now c.args.family.parent.now c.as_slice.result.now c.args.brought.own.items c.is_even-even.result c.as_slice.ensures.value c.is_even-even.ensures) c.as_slice-2.ensures.value c.in_ok-makings.ensures c.if-is_idle.ensures)
     (sym c.if-are_long.ensures) c.counters.ensures (sym c.if-is_spent.ensures)))
 
 pub returns-then-not-can_merge-clause-does : goal.returns-then-not-can_merge-clause-does
@@ -58,15 +56,16 @@ returns-clause-does c = λ xs session workspace merges.
     let room = room_of counter_limit _ _ (sym c.if-are_long.ensures) in
     told c.args.image.now xs c.args.moment c.done.result
     (merge_edits (asked_view c.args.asked) (is_even_at c.args.family.space.now c.args.family.parent.now (map entry_of c.args.brought.own.items)) c.args.family.space.now.number c.args.family.parent.now.number c.args.brought.own
-    c.args.brought.gained)
+    c.args.brought.gained (makings_of c.args.family.space.now.number (parts_of c.args.image.now).locks))
     (freeing (asked_view c.args.asked) c.args.family.space.now.number) Fine (merge_workspace session (asked_view c.args.asked) workspace)
     (c.done.ensures.edits ∙ c.in_ok-edits.ensures
-    ∙ ap (λ (e : Bool). merge_edits (asked_view c.args.asked) e c.args.family.space.now.number c.args.family.parent.now.number c.args.brought.own c.args.brought.gained) even)
+    ∙ ap (λ (e : Bool). merge_edits (asked_view c.args.asked) e c.args.family.space.now.number c.args.family.parent.now.number c.args.brought.own c.args.brought.gained c.in_ok-makings.makings.items) even
+    ∙ ap (λ (xs : List ℕ). merge_edits (asked_view c.args.asked) (is_even_at c.args.family.space.now c.args.family.parent.now (map entry_of c.args.brought.own.items)) c.args.family.space.now.number c.args.family.parent.now.number c.args.brought.own c.args.brought.gained xs) c.in_ok-makings.ensures)
     (ap seating_view c.done.ensures.seating ∙ c.freeing.ensures) (ap answer_view c.done.ensures.answer)
     (does_merge c.args.image.now xs c.args.moment session workspace (asked_view c.args.asked) c.args.family.space.now c.args.family.parent.now c.counters.result c.args.brought.own c.args.brought.gained merges
-    (ap (λ e. e && not (c.args.asked.keeps || c.args.asked.removes)) (sym even) ∙ sym c.if-is_idle.ensures)
+    (idle_told (asked_view c.args.asked) c.args.family.space.now c.args.family.parent.now c.args.brought.own.items c.is_even-even.result c.as_slice-2.result.now c.in_ok-makings.makings.items _ _ even c.as_slice-2.ensures.value c.in_ok-makings.ensures c.if-is_idle.ensures)
     (drafts_merge c.args.image.now c.args.moment xs session (asked_view c.args.asked) workspace c.args.family.space.now c.args.family.parent.now c.counters.result c.args.brought.own c.args.brought.gained merges may
-    c.counters.ensures room.0 room.1 c.law_of_order.ensures (sym c.if-is_spent.ensures) (early c.args.moment c.requires.moment))
+    c.counters.ensures room.0 room.1 (makings_of c.args.family.space.now.number (parts_of c.args.image.now).locks) c.law_of_order.ensures (sym c.if-is_spent.ensures) (early c.args.moment c.requires.moment))
     (sym c.if-are_long.ensures) c.counters.ensures (sym c.if-is_spent.ensures))
 
 -- ---- its edits
@@ -88,4 +87,5 @@ returns-clause-edits c =
     let even = even_told c.args.family.space.now c.args.family.parent.now c.as_slice.result.now c.args.brought.own.items c.is_even-even.result c.as_slice.ensures.value c.is_even-even.ensures in
     inr
     (c.done.ensures.edits ∙ c.in_ok-edits.ensures
-    ∙ ap (λ (e : Bool). merge_edits (asked_view c.args.asked) e c.args.family.space.now.number c.args.family.parent.now.number c.args.brought.own c.args.brought.gained) even)
+    ∙ ap (λ (e : Bool). merge_edits (asked_view c.args.asked) e c.args.family.space.now.number c.args.family.parent.now.number c.args.brought.own c.args.brought.gained c.in_ok-makings.makings.items) even
+    ∙ ap (λ (xs : List ℕ). merge_edits (asked_view c.args.asked) (is_even_at c.args.family.space.now c.args.family.parent.now (map entry_of c.args.brought.own.items)) c.args.family.space.now.number c.args.family.parent.now.number c.args.brought.own c.args.brought.gained xs) c.in_ok-makings.ensures)

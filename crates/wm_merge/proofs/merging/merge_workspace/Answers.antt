@@ -9,7 +9,7 @@ use Rattle.wm_merge.proofs.Asked.{family_of}
 use Rattle.wm_merge.proofs.MergePlans.{merges_named}
 use Rattle.wm_merge.proofs.Parents.{family_named, parent_found}
 use Rattle.wm_merge.proofs.NetPlans.{nets_named}
-use Rattle.wm_spending.specs.Nets.{Nothing}
+use Rattle.wm_spending.specs.Nets.{Nothing, merge_of}
 use Rattle.wm_merge.proofs.merging.merge_workspace.Goals as goal
 
 pub returns-in_default-clause-does : goal.returns-in_default-clause-does
@@ -52,7 +52,7 @@ returns-then-space-eq0-clause-nets c = λ stays. Nothing c.answered-then-space-e
 
 pub returns-clause-nets : goal.returns-clause-nets
 returns-clause-nets c = λ stays.
-    nets_named c.args.image.now c.merge_into.result c.args.name.now c.in-Some.space.now c.unwrap-parent.result.now
+    nets_named merge_of c.args.image.now c.merge_into.result c.args.name.now c.in-Some.space.now c.unwrap-parent.result.now
     (family_named c.args.image.now c.args.name.now c.in-Some.space.now c.space.result c.unwrap-parent.result.now (record { rules = c.requires.rules; found = sym c.in-Some.ensures }) (omega (arith, c.if-space-eq0.false))
     c.space.ensures (ap option_copied c.unwrap-parent.ensures))
     (c.merge_into.ensures.nets stays)

@@ -9,7 +9,7 @@ use Rattle.wm_merge.proofs.RefreshPlans.{quiet_told, refreshes_named}
 use Rattle.wm_merge.proofs.Asked.{family_of}
 use Rattle.wm_model.proofs.RefreshingLine.{refresh_homeless, refresh_liveless}
 use Rattle.wm_merge.proofs.NetPlans.{nets_named}
-use Rattle.wm_spending.specs.Nets.{Nothing}
+use Rattle.wm_spending.specs.Nets.{Nothing, refresh_of}
 use Rattle.wm_merge.proofs.refreshing.refresh_workspace.Goals as goal
 
 pub returns-in_default-clause-does : goal.returns-in_default-clause-does
@@ -62,7 +62,7 @@ returns-then-is_quiet-clause-nets c = Nothing c.answered-then-is_quiet.ensures.e
 
 pub returns-clause-nets : goal.returns-clause-nets
 returns-clause-nets c =
-    nets_named c.args.image.now c.refresh_pending.result c.args.name.now c.in-Some.space.now c.unwrap-parent.result.now
+    nets_named refresh_of c.args.image.now c.refresh_pending.result c.args.name.now c.in-Some.space.now c.unwrap-parent.result.now
     (family_named c.args.image.now c.args.name.now c.in-Some.space.now c.space.result c.unwrap-parent.result.now (record { rules = c.requires.rules; found = sym c.in-Some.ensures }) (omega (arith, c.if-space-eq0.false))
     c.space.ensures (ap option_copied c.unwrap-parent.ensures))
     c.refresh_pending.ensures.nets
