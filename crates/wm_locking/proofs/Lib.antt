@@ -1,0 +1,7 @@
+pub mod Fronts
+pub mod KeyColumns
+pub mod Lines
+pub mod LockingRows
+pub mod Sites
+pub mod Unlocking
+pub mod Wider
