@@ -15,15 +15,15 @@ use Rattle.wm_spec.specs.declared.record.table.Table.{Table}
 use Rattle.wm_typing.specs.Columns.{columns_of_table}
 use Rattle.wm_model.proofs.Named.{named_is}
 use Rattle.wm_model.specs.Planning.{tables_in}
-use Rattle.wm_model.specs.Sources.{AreConflicts, AreListed, IsSeen, Look}
+use Rattle.wm_model.specs.Sources.{AreConflicts, AreListed, IsSeen, Look, recorded_name}
 use Rattle.wm_model.specs.Step.{source_name}
 use Rattle.wm_chosen.proofs.Seen.{shown_fits}
 use Rattle.wm_chosen.proofs.Stood.{showing_all}
-use Rattle.wm_view_rows.proofs.Fits.{conflicts_fit, history_fits}
+use Rattle.wm_view_rows.proofs.Fits.{conflicts_fit, history_fits, locks_fit}
 use Rattle.wm_view_rows.specs.Columns.{columns_of_view}
 use Rattle.wm_view_rows.specs.Views.{table_sought, view_named}
 use Rattle.wm_view_rows.specs.declared.view.View.{View}
-use Rattle.wm_view_rows.specs.declared.view.View.TheVariants.{Rows, Conflicts, History}
+use Rattle.wm_view_rows.specs.declared.view.View.TheVariants.{Rows, Conflicts, History, Locks}
 
 -- what is seen of a table fits the columns of what is shown of it
 pub seen_fits : (rs : List Stored) (look : Look) (view : View) (t : Table) (source : List ℕ) (rows : List Row) → keep_rules (parts_of rs) ≡ true → table_of (parts_of rs).tables t.number ≡ Some t → IsSeen (parts_of rs) look view t rows
@@ -36,6 +36,7 @@ seen_fits rs look Conflicts t source rows rules there are = by_family look.famil
     by_family None none = ap (list_all (fits (columns_of_view Conflicts source t))) none
     by_family (Some x) is = conflicts_fit (parts_of rs) x.0 x.1 t source rows rules there is
 seen_fits rs look History t source rows rules there are = history_fits (parts_of rs) look.home t source rows rules there are
+seen_fits rs look Locks t source rows rules there are = locks_fit (parts_of rs) (recorded_name (parts_of rs)) t source rows rules there are
 
 pub rows_listed : (rs : List Stored) (look : Look) (sources : List Src) (ls : List Source) → keep_rules (parts_of rs) ≡ true → AreListed (parts_of rs) look (tables_in rs) sources ls → rows_fit ls ≡ true
 rows_listed rs look [] ls rules are = ap rows_fit are

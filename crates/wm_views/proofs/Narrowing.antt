@@ -1,5 +1,5 @@
 -- A query whose conditions fix keys answers over the rows of these keys what it answers over all rows.
-use Rattle.std.proofs.Common.{◌≡◌, ℕ, ◌+◌, ◌<◌, ◌≤◌, Bool, true, if◌then◌else◌, List, [], ◌∷◌, ◌++◌, length, map, drop, get_or, Option, Some, None, Result, Ok, Err, IfOk, IfSome, codes, append-nil, append_assoc, length-append, arith, refl, sym, ap, subst, ◌∙◌}
+use Rattle.std.proofs.Common.{◌≡◌, ℕ, ◌+◌, ◌<◌, ◌≤◌, Bool, true, if◌then◌else◌, List, [], ◌∷◌, ◌++◌, length, map, drop, get_or, Option, Some, None, Result, Ok, Err, IfOk, IfSome, append-nil, append_assoc, length-append, arith, refl, sym, ap, subst, ◌∙◌}
 use Rattle.std.proofs.lemmas.List.{drop_all, length-map}
 use Rattle.std.specs.List.{list_all}
 use Rattle.std.specs.Option.{option_map_or}
@@ -14,7 +14,7 @@ use Rattle.wm_graph.specs.Parts.{Parts, parts_of, table_of}
 use Rattle.wm_graph.specs.Rules.{is_key, is_table, keep_rules, key_of}
 use Rattle.wm_model.proofs.Named.{named_is}
 use Rattle.wm_model.specs.Planning.{tables_in}
-use Rattle.wm_model.specs.Sources.{AreConflicts, AreListed, IsListed, IsSeen, Look}
+use Rattle.wm_model.specs.Sources.{AreConflicts, AreListed, IsListed, IsSeen, Look, recorded_name}
 use Rattle.wm_model.specs.Step.{answer_rows, columns_in, lost_source, source_name, table_asked}
 use Rattle.wm_select.proofs.NarrowLemmas.{answer_narrowed}
 use Rattle.wm_joining.proofs.NarrowLemmas.{narrowed_columns}
@@ -26,10 +26,10 @@ use Rattle.wm_spec.specs.declared.record.stored.Stored.{Stored}
 use Rattle.wm_spec.specs.declared.record.table.Table.{Table}
 use Rattle.wm_state.proofs.Laying.{key_itself}
 use Rattle.wm_typing.specs.Columns.{columns_of_table, declared_column, valid_column}
-use Rattle.wm_view_rows.specs.Columns.{columns_of_view, history_columns, text_column}
+use Rattle.wm_view_rows.specs.Columns.{columns_of_view}
 use Rattle.wm_view_rows.specs.Views.{table_sought, view_named}
 use Rattle.wm_view_rows.specs.declared.view.View.{View}
-use Rattle.wm_view_rows.specs.declared.view.View.TheVariants.{Rows, Conflicts, History}
+use Rattle.wm_view_rows.specs.declared.view.View.TheVariants.{Rows, Conflicts, History, Locks}
 use Rattle.wm_views.proofs.Fits.{rows_listed, seen_fits}
 use Rattle.wm_chosen.proofs.KeyRows.{rows_under_key}
 use Rattle.wm_chosen.proofs.Listable.{is_showing, rows_with}
@@ -38,6 +38,7 @@ use Rattle.wm_chosen.proofs.Seen.{shown_fits}
 use Rattle.wm_chosen.proofs.Stood.{key_showing_all}
 use Rattle.wm_chosen.specs.Keyed.{FixesKeyAt}
 use Rattle.wm_view_rows.specs.History.{IsHistoryView}
+use Rattle.wm_view_rows.specs.Locks.{lock_view}
 use Rattle.wm_plan.specs.Views.{answer_view}
 use Rattle.wm_plan.specs.declared.answer.Answer.{Answer as AnswerNode}
 use Rattle.wm_base.specs.declared.memory.Memory.{Memory}
@@ -46,25 +47,20 @@ use Rattle.wm_views.specs.Narrowed.{IsListedFor, AreListedFor, AreShown, may_nar
 
 -- ---- one source
 
--- the columns of a table are among those of what is shown of it
-pub view_wide : (view : View) (name : List ℕ) (t : Table) → length t.columns ≤ length (columns_of_view view name t)
-view_wide view name t = by_view view
-  where
-    own : length t.columns ≤ length (columns_of_table name t)
-    own =
-        let all : length (columns_of_table name t) ≡ length (map (declared_column name) t.columns) + length (if t.valid then valid_column name ∷ [] else []) =
-        length-append (map (declared_column name) t.columns) (if t.valid then valid_column name ∷ [] else []) in
-        let same : length (map (declared_column name) t.columns) ≡ length t.columns = length-map t.columns (declared_column name) in
-        omega (arith, all, same)
+-- the declared columns of a table are among its columns
+table_wide : (name : List ℕ) (t : Table) → length t.columns ≤ length (columns_of_table name t)
+table_wide name t =
+    let all : length (columns_of_table name t) ≡ length (map (declared_column name) t.columns) + length (if t.valid then valid_column name ∷ [] else []) =
+    length-append (map (declared_column name) t.columns) (if t.valid then valid_column name ∷ [] else []) in
+    let same : length (map (declared_column name) t.columns) ≡ length t.columns = length-map t.columns (declared_column name) in
+    omega (arith, all, same)
 
-    by_view : (v : View) → length t.columns ≤ length (columns_of_view v name t)
-    by_view Rows = own
-    by_view Conflicts =
-        let all : length (columns_of_table name t ++ text_column name (codes "WM_DELETED") ∷ []) ≡ length (columns_of_table name t) + 1 = length-append (columns_of_table name t) (text_column name (codes "WM_DELETED") ∷ []) in
-        omega (arith, own, all)
-    by_view History =
-        let all : length (columns_of_table name t ++ history_columns name) ≡ length (columns_of_table name t) + 5 = length-append (columns_of_table name t) (history_columns name) in
-        omega (arith, own, all)
+-- where its rows are shown, there is room for them
+pub room_of_rows : (view : View) (name : List ℕ) (t : Table) (before total : ℕ) → Rows ≡ view → before + length (columns_of_view view name t) ≤ total → before + length t.columns ≤ total
+room_of_rows view name t before total is room =
+    let wide = table_wide name t in
+    let own : length (columns_of_view view name t) ≡ length (columns_of_table name t) = ap (λ (v : View). length (columns_of_view v name t)) (sym is) in
+    omega (arith, wide, own, room)
 
 -- the whole of what a source shows, of which that is listed which the query may keep
 record HasWhole (rs : List Stored) (look : Look) (keeps : Row → Bool) (before : ℕ) (x : Src) (l : Source) : Type 0 where
@@ -88,10 +84,10 @@ seen_whole rs look view t keeps before l rows = record {
   narrowed = record { passes = λ row. true; columns = refl; same = refl; sound = λ one row other behind e kept. refl };
 }
 
-has_seen : (rs : List Stored) (look : Look) (view : View) (t : Table) (keeps : Row → Bool) (before : ℕ) (l : Source) (key : Option (List Value)) → keep_rules (parts_of rs) ≡ true → table_of (parts_of rs).tables t.number ≡ Some t
-    → length t.columns ≤ length l.columns → IfSome key (FixesKeyAt t keeps before) → AreShown (parts_of rs) look view t key l.rows → HasSeen rs look view t keeps before l
-has_seen rs look Rows t keeps before l None rules there wide fixed rows = seen_whole rs look Rows t keeps before l rows
-has_seen rs look Rows t keeps before l (Some key) rules there wide fixed rows = record {
+has_seen : (rs : List Stored) (look : Look) (view : View) (name : List ℕ) (t : Table) (keeps : Row → Bool) (before : ℕ) (l : Source) (key : Option (List Value)) → keep_rules (parts_of rs) ≡ true → table_of (parts_of rs).tables t.number ≡ Some t
+    → l.columns ≡ columns_of_view view name t → IfSome key (FixesKeyAt t keeps before) → AreShown (parts_of rs) look view t key l.rows → HasSeen rs look view t keeps before l
+has_seen rs look Rows name t keeps before l None rules there are fixed rows = seen_whole rs look Rows t keeps before l rows
+has_seen rs look Rows name t keeps before l (Some key) rules there are fixed rows = record {
   all = record { columns = l.columns; rows = rows_with (parts_of rs) look.version t.number t.valid (look.period t) key };
   columns = refl;
   rows = is_showing (parts_of rs) look.version t.number t.valid (look.period t) key;
@@ -99,19 +95,20 @@ has_seen rs look Rows t keeps before l (Some key) rules there wide fixed rows = 
     passes = λ row. is_key key (key_of t row.values);
     columns = refl;
     same = rows_under_key (parts_of rs) look.version t (look.period t) key l.rows rules there rows;
-    sound = λ one row other behind e kept. ap (is_key key) (fixed.under one row other behind (subst (λ n. length t.columns ≤ n) (sym e) wide) kept) ∙ key_itself key;
+    sound = λ one row other behind e kept. ap (is_key key) (fixed.under one row other behind (subst (λ n. length t.columns ≤ n) (ap (λ (cs : List Column). length cs) (sym are) ∙ sym e) (table_wide name t)) kept) ∙ key_itself key;
   };
 }
-has_seen rs look Conflicts t keeps before l None rules there wide fixed rows = seen_whole rs look Conflicts t keeps before l rows
-has_seen rs look Conflicts t keeps before l (Some key) rules there wide fixed rows = absurd rows
-has_seen rs look History t keeps before l None rules there wide fixed rows = seen_whole rs look History t keeps before l rows
-has_seen rs look History t keeps before l (Some key) rules there wide fixed rows = absurd rows
+has_seen rs look Conflicts name t keeps before l None rules there are fixed rows = seen_whole rs look Conflicts t keeps before l rows
+has_seen rs look Conflicts name t keeps before l (Some key) rules there are fixed rows = absurd rows
+has_seen rs look History name t keeps before l None rules there are fixed rows = seen_whole rs look History t keeps before l rows
+has_seen rs look History name t keeps before l (Some key) rules there are fixed rows = absurd rows
+has_seen rs look Locks name t keeps before l None rules there are fixed rows = seen_whole rs look Locks t keeps before l rows
+has_seen rs look Locks name t keeps before l (Some key) rules there are fixed rows = absurd rows
 
 has_whole : (rs : List Stored) (look : Look) (keeps : Row → Bool) (before : ℕ) (x : Src) (l : Source) → keep_rules (parts_of rs) ≡ true → IsListedFor (parts_of rs) look (tables_in rs) keeps before x l
     → HasWhole rs look keeps before x l
 has_whole rs look keeps before x l rules is =
-    let wide = subst (λ n. length is.table.columns ≤ n) (ap (λ (cs : List Column). length cs) (sym is.columns)) (view_wide (view_named x.table) (source_name x) is.table) in
-    let h = has_seen rs look (view_named x.table) is.table keeps before l is.key rules (named_is rs (table_sought x.table) is.table rules is.named).there wide is.fixed is.rows in
+    let h = has_seen rs look (view_named x.table) (source_name x) is.table keeps before l is.key rules (named_is rs (table_sought x.table) is.table rules is.named).there is.columns is.fixed is.rows in
     record { all = h.all; listed = record { table = is.table; named = is.named; columns = h.columns ∙ is.columns; rows = h.rows }; narrowed = h.narrowed }
 
 -- its rows fit its columns
@@ -125,6 +122,8 @@ shown_fit rs look Conflicts t source None rows rules there are = seen_fits rs lo
 shown_fit rs look Conflicts t source (Some key) rows rules there are = absurd are
 shown_fit rs look History t source None rows rules there are = seen_fits rs look History t source rows rules there are
 shown_fit rs look History t source (Some key) rows rules there are = absurd are
+shown_fit rs look Locks t source None rows rules there are = seen_fits rs look Locks t source rows rules there are
+shown_fit rs look Locks t source (Some key) rows rules there are = absurd are
 
 one_fits : (rs : List Stored) (look : Look) (keeps : Row → Bool) (before : ℕ) (x : Src) (l : Source) → keep_rules (parts_of rs) ≡ true → IsListedFor (parts_of rs) look (tables_in rs) keeps before x l
     → list_all (λ row. fits l.columns row) l.rows ≡ true
@@ -201,6 +200,11 @@ pub whole_history : (p : Parts) (look : Look) (t : Table) (key : Option (List Va
 whole_history p look t None r whole are = are
 whole_history p look t (Some key) r whole are = absurd (cc)
 
+pub whole_locks : (p : Parts) (look : Look) (t : Table) (key : Option (List Value)) (r : Result (List Row) Memory) → may_narrow Locks key ≡ true → IfOk r (λ rows. rows ≡ lock_view (recorded_name p) t p.locks)
+    → IfOk r (λ rows. AreShown p look Locks t key rows)
+whole_locks p look t None r whole are = are
+whole_locks p look t (Some key) r whole are = absurd (cc)
+
 -- the rows of a table may be listed by any key
 pub rows_narrow : (r : Result (Option (List Value)) Memory) → IfOk r (λ key. may_narrow Rows key ≡ true)
 rows_narrow (Ok key) = refl
@@ -243,13 +247,6 @@ pub room_behind : (p : Parts) (look : Look) (tables : List Table) (keeps : Row �
 room_behind p look tables keeps total sources i before x t items within at goes named =
     let room = room_for p look tables keeps total sources i before x t items within at goes named in
     omega (arith, room)
-
-pub room_left : (p : Parts) (look : Look) (tables : List Table) (keeps : Row → Bool) (total : ℕ) (sources : List SrcNode) (i before : ℕ) (x : SrcNode) (t : Table) (items : List Source)
-    → i < length sources → x ≡ get_or sources i x → GoesFor p look tables keeps total sources i before items → Some t ≡ table_asked tables (src_view x) → before + length t.columns ≤ total
-room_left p look tables keeps total sources i before x t items within at goes named =
-    let room = room_behind p look tables keeps total sources i before x t items within at goes named in
-    let wide = view_wide (view_named x.table) (source_name (src_view x)) t in
-    omega (arith, room, wide)
 
 -- the table of the next one is in order
 pub next_well : (rs : List Stored) (x : SrcNode) (t : Table) → keep_rules (parts_of rs) ≡ true → Some t ≡ table_asked (tables_in rs) (src_view x) → is_table t ≡ true

@@ -12,7 +12,7 @@ use Rattle.wm_spec.specs.declared.record.table.Table.{Table}
 use Rattle.wm_view_rows.specs.Columns.{columns_of_view}
 use Rattle.wm_view_rows.specs.Views.{view_named}
 use Rattle.wm_view_rows.specs.declared.view.View.{View}
-use Rattle.wm_view_rows.specs.declared.view.View.TheVariants.{Rows, Conflicts, History}
+use Rattle.wm_view_rows.specs.declared.view.View.TheVariants.{Rows, Conflicts, History, Locks}
 use Rattle.wm_chosen.specs.Keyed.{FixesKeyAt}
 
 -- ---- what is listed
@@ -22,12 +22,14 @@ abbrev pub may_narrow : View → Option (List Value) → Bool
 may_narrow Rows key = true
 may_narrow Conflicts key = is_none key
 may_narrow History key = is_none key
+may_narrow Locks key = is_none key
 
 -- what is seen of a table, or the rows of one key
 abbrev pub AreShown : Parts → Look → View → Table → Option (List Value) → List Row → Type 0
 AreShown p look Rows t (Some key) rows = IsKeyShowing p look.version t.number t.valid (look.period t) key rows
 AreShown p look Conflicts t (Some key) rows = ⊥
 AreShown p look History t (Some key) rows = ⊥
+AreShown p look Locks t (Some key) rows = ⊥
 AreShown p look view t None rows = IsSeen p look view t rows
 
 -- a source behind so many columns has the columns of what it shows of its table and the rows; those of one key only where each tuple that is kept

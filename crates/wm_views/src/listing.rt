@@ -16,6 +16,7 @@ ghost use Rattle.wm_view_rows.specs.declared.view.View.TheVariants as views;
 ghost use Rattle.wm_views.specs.Looking.{look_view};
 ghost use Rattle.wm_views.specs.Narrowed.{AreListedFor, AreShown, may_narrow};
 
+use crate::locks::locks_shown;
 use crate::looking::Look;
 use crate::sources::{source_name, table_asked};
 use std::alloc::Global;
@@ -87,6 +88,7 @@ fn rows_seen(
         View::Rows => rows_shown(alloc, image, look, table, key),
         View::Conflicts => conflicts_shown(alloc, image, look, table),
         View::History => history_view(alloc, image, look.home, table),
+        View::Locks => locks_shown(alloc, image, table),
     }
 }
 
@@ -122,13 +124,13 @@ fn key_asked(
     query: &Query,
 ) -> Result<Option<Key>, Memory>
     requires well { is_table table.now ≡ true }
-    requires room { before + length table.now.columns ≤ length columns.now }
+    requires room { before + length (columns_of_view (view_named (src_view source.now).table) (source_name (src_view source.now)) table.now) ≤ length columns.now }
     ensures narrow { IfOk result (λ key. may_narrow (view_named (src_view source.now).table) key ≡ true) }
     ensures fixed { IfOk result (λ key. IfSome key (FixesKeyAt table.now (is_kept (query_view query.now) columns.now) before)) }
 {
     match view_named(source.table.as_bytes()) {
         View::Rows => key_asked_at(alloc, columns, before, table, query),
-        View::Conflicts | View::History => Ok(None),
+        View::Conflicts | View::History | View::Locks => Ok(None),
     }
 }
 

@@ -63,7 +63,7 @@ fn is_conflicts(view: View) -> bool
 {
     match view {
         View::Conflicts => true,
-        View::Rows | View::History => false,
+        View::Rows | View::History | View::Locks => false,
     }
 }
 

@@ -2,7 +2,7 @@ use Rattle.std.proofs.Common.{◌≡◌, List, true, IfOk, sym, subst}
 use Rattle.wm_base.specs.declared.row.Row.{Row}
 use Rattle.wm_graph.specs.Parts.{parts_of}
 use Rattle.wm_view_rows.specs.declared.view.View.{View}
-use Rattle.wm_views.proofs.Narrowing.{whole_conflicts, whole_history}
+use Rattle.wm_views.proofs.Narrowing.{whole_conflicts, whole_history, whole_locks}
 use Rattle.wm_views.specs.Looking.{look_view}
 use Rattle.wm_views.specs.Narrowed.{AreShown, may_narrow}
 use Rattle.wm_views.proofs.listing.rows_seen.Goals as goal
@@ -18,3 +18,9 @@ returns-in-History c =
     subst (λ (v : View). IfOk c.history_view.result (λ (rows : List Row). AreShown (parts_of c.args.image.now) (look_view c.args.look.now) v c.args.table.now c.args.key rows)) (sym c.in-History.is)
     (whole_history (parts_of c.args.image.now) (look_view c.args.look.now) c.args.table.now c.args.key c.history_view.result (subst (λ (v : View). may_narrow v c.args.key ≡ true) c.in-History.is c.requires.narrow)
     c.history_view.ensures)
+
+pub returns-in-Locks : goal.returns-in-Locks
+returns-in-Locks c =
+    subst (λ (v : View). IfOk c.locks_shown.result (λ (rows : List Row). AreShown (parts_of c.args.image.now) (look_view c.args.look.now) v c.args.table.now c.args.key rows)) (sym c.in-Locks.is)
+    (whole_locks (parts_of c.args.image.now) (look_view c.args.look.now) c.args.table.now c.args.key c.locks_shown.result (subst (λ (v : View). may_narrow v c.args.key ≡ true) c.in-Locks.is c.requires.narrow)
+    c.locks_shown.ensures)

@@ -10,7 +10,7 @@ use Rattle.wm_view_rows.specs.Columns.{columns_of_view}
 use Rattle.wm_view_rows.specs.Views.{view_named}
 use Rattle.wm_views.specs.Looking.{look_view}
 use Rattle.wm_views.proofs.Sourcing.{next_there}
-use Rattle.wm_views.proofs.Narrowing.{listed_all_for, lists_more_for, next_well, room_behind, room_left}
+use Rattle.wm_views.proofs.Narrowing.{listed_all_for, lists_more_for, next_well, room_behind}
 use Rattle.wm_views.proofs.listing.sources_in.Goals.{in-Some+in_ok-key+in_ok-shown+in_ok-push, in_default}
 use Rattle.wm_views.proofs.listing.sources_in.Goals as goal
 
@@ -19,7 +19,7 @@ key_asked-requires-clause-well c = next_well c.args.image.now c.source-item.resu
 
 pub key_asked-requires-clause-room : goal.key_asked-requires-clause-room
 key_asked-requires-clause-room c =
-    room_left (parts_of c.args.image.now) (look_view c.args.look.now) (tables_in c.args.image.now) (is_kept (query_view c.args.query.now) c.args.columns.now) (length c.args.columns.now) c.args.sources.now
+    room_behind (parts_of c.args.image.now) (look_view c.args.look.now) (tables_in c.args.image.now) (is_kept (query_view c.args.query.now) c.args.columns.now) (length c.args.columns.now) c.args.sources.now
     c.loop-source.source-index c.loop-source.before c.source-item.result c.in-Some.table.now c.loop-source.listings.items c.loop-source-test.true c.source-item.is
     (record { there = c.loop-source.invariant.there; room = c.loop-source.invariant.room; listed = c.loop-source.invariant.listed }) c.in-Some.ensures
 
