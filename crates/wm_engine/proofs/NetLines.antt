@@ -17,15 +17,16 @@ use Rattle.wm_grammar.specs.declared.procedure.Parameter.TheVariants as paramete
 use Rattle.wm_grammar.specs.declared.procedure.Procedure.{Procedure}
 use Rattle.wm_grammar.specs.declared.procedure.Procedure.TheVariants as procedures
 use Rattle.wm_model.specs.Step.{timed_line}
+use Rattle.wm_spending.specs.Nets.{Net, merge_of, refresh_of}
 use Rattle.wm_timed.specs.Timed.{timed_arg, timed_value}
 use Rattle.wm_engine.specs.NetLines.{nets_call, nets_of_line}
 
 -- ---- which workspace
 
 -- a merge that is asked for removes nothing
-pub merges_alone : (removes : Bool) (given workspace : List ℕ) → (if removes then None else Some given) ≡ Some workspace → (removes ≡ false) × (given ≡ workspace)
-merges_alone true given workspace e = absurd (none-some workspace e)
-merges_alone false given workspace e = (refl, same_Some given workspace e)
+pub merges_alone : (removes : Bool) (given net : Net) → (if removes then None else Some given) ≡ Some net → (removes ≡ false) × (given ≡ net)
+merges_alone true given net e = absurd (none-some net e)
+merges_alone false given net e = (refl, same_Some given net e)
 
 -- ---- arguments with the moment in the place of SYSDATE
 
@@ -90,10 +91,10 @@ true_timed m procedure args p = ap is_true (argument_timed m procedure args p) �
 
 call_timed : (m : ℕ) (o : Option Procedure) (args : List Arg) → nets_call o (map (timed_arg m) args) ≡ nets_call o args
 call_timed m None args = refl
-call_timed m (Some procedures.RefreshWorkspace) args = ap (λ (o : Option (List ℕ)). Some (unwrap_or o [])) (given_timed m procedures.RefreshWorkspace args parameters.Workspace)
+call_timed m (Some procedures.RefreshWorkspace) args = ap (λ (o : Option (List ℕ)). Some (refresh_of (unwrap_or o []))) (given_timed m procedures.RefreshWorkspace args parameters.Workspace)
 call_timed m (Some procedures.MergeWorkspace) args =
-    ap (λ b. if b then None else Some (unwrap_or (text_given procedures.MergeWorkspace (map (timed_arg m) args) parameters.Workspace) [])) (true_timed m procedures.MergeWorkspace args parameters.RemoveWorkspace)
-    ∙ ap (λ (o : Option (List ℕ)). if is_true_given procedures.MergeWorkspace args parameters.RemoveWorkspace then None else Some (unwrap_or o [])) (given_timed m procedures.MergeWorkspace args parameters.Workspace)
+    ap (λ b. if b then None else Some (merge_of (unwrap_or (text_given procedures.MergeWorkspace (map (timed_arg m) args) parameters.Workspace) []))) (true_timed m procedures.MergeWorkspace args parameters.RemoveWorkspace)
+    ∙ ap (λ (o : Option (List ℕ)). if is_true_given procedures.MergeWorkspace args parameters.RemoveWorkspace then None else Some (merge_of (unwrap_or o []))) (given_timed m procedures.MergeWorkspace args parameters.Workspace)
 call_timed m (Some _) args = refl
 
 pub nets_timed : (m : ℕ) (l : Line) → nets_of_line (timed_line m l) ≡ nets_of_line l

@@ -1,5 +1,5 @@
 //! The state between two lines, and what a line does to it.
-ghost use Rattle.std.specs.Prelude.{◌≡◌, ℕ, ◌<◌, ◌≤◌, ◌⊎◌, ◌+◌, ◌*◌, List, Some, true, false, OnOk, OnSome, IfOk, IfErr, IfSome, IsErrOf};
+ghost use Rattle.std.specs.Prelude.{◌≡◌, ℕ, ◌<◌, ◌≤◌, ◌⊎◌, ◌+◌, ◌*◌, Some, true, false, OnOk, OnSome, IfOk, IfErr, IfSome, IsErrOf};
 ghost use Rattle.wm_faults.specs.declared.fault.MakeFault.TheVariants as making;
 ghost use Rattle.wm_faults.specs.declared.fault.OpenFault.TheVariants as opening;
 ghost use Rattle.wm_base.specs.declared.instant.TheConstants.{END};
@@ -14,7 +14,8 @@ ghost use Rattle.wm_engine.specs.Working.{FileStands, HoldsSorted, IsSound, Leav
 ghost use Rattle.wm_model.specs.Step.Refusing.{refusal_of};
 ghost use Rattle.wm_engine.specs.declared.fault.LineFault.TheVariants as faults;
 ghost use Rattle.wm_prices.specs.Prices.{ChangesAtMost};
-ghost use Rattle.wm_spending.specs.Stretches.{mark_count, stretch_count};
+ghost use Rattle.wm_spending.specs.Nets.{Net};
+ghost use Rattle.wm_spending.specs.Stretches.{going_count, stretch_count};
 ghost use Rattle.wm_state.specs.Drafts.{ChangesFew};
 ghost use Rattle.wm_state.specs.State.{State, begin, fresh};
 ghost use Rattle.wm_model.specs.Step.{step, answer_text};
@@ -172,9 +173,9 @@ impl Engine {
         ensures pages { P.tells → (n : ℕ) → OnOk result (ChangesAtMost n self.old.records self.new.records → ChangesPages self.new.store (2 * n + 2) (now (P.history station.old)) (now (P.history station.new))) }
         // A line that changes no record writes nothing, and syncs nothing.
         ensures still { P.tells → OnOk result (ChangesAtMost 0 self.old.records self.new.records → P.history station.new ≡ P.history station.old) }
-        // A refresh, or a merge that removes nothing, changes eight records at most, eight for each stretch of what is own or pending, and each mark
-        // of the workspace.
-        ensures net { (workspace : List ℕ) → nets_into (parsed line.now) ≡ Some workspace → (s : State) → StandsFor self.old s → OnOk result (ChangesAtMost (8 + 8 * stretch_count s workspace + mark_count self.old.records workspace) self.old.records self.new.records) }
+        // A refresh, or a merge that removes nothing, changes eight records at most, eight for each stretch of what is own or pending, each mark of
+        // the workspace, and, where it is merged, each lock there.
+        ensures net { (net : Net) → nets_into (parsed line.now) ≡ Some net → (s : State) → StandsFor self.old s → OnOk result (ChangesAtMost (8 + 8 * stretch_count s net.workspace + going_count self.old.records net) self.old.records self.new.records) }
         // A line that is refused, that reads, that changes no row, or that says nothing changes no record and no session, and leaves the moment.
         ensures idle { (s : State) → StandsFor self.old s → is_idle (step s line.now).1 ≡ true → OnOk result ((self.new.records ≡ self.old.records) × (self.new.sessions ≡ self.old.sessions) × (self.new.moment ≡ self.old.moment)) }
         // Such a line writes nothing, and syncs nothing.

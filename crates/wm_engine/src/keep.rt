@@ -1,5 +1,5 @@
 //! A line over a store: what it does is planned and printed, and only then kept.
-ghost use Rattle.std.specs.Prelude.{◌≡◌, ◌<◌, ◌≤◌, ◌⊎◌, ◌+◌, ◌*◌, ℕ, List, [], Some, true, OnOk, OnSome, IfOk, IfSome, IsErrOf};
+ghost use Rattle.std.specs.Prelude.{◌≡◌, ◌<◌, ◌≤◌, ◌⊎◌, ◌+◌, ◌*◌, ℕ, [], Some, true, OnOk, OnSome, IfOk, IfSome, IsErrOf};
 ghost use Rattle.wm_base.specs.declared.instant.TheConstants.{END};
 ghost use Rattle.wm_engine.specs.Cause.{LineCause};
 ghost use Rattle.wm_engine.specs.ForkLines.{is_fork};
@@ -19,7 +19,8 @@ ghost use Rattle.wm_model.specs.Step.{step, answer_text};
 ghost use Rattle.wm_grammar.specs.Parsed.{parsed};
 ghost use Rattle.wm_print.specs.Texts.{Refused};
 ghost use Rattle.wm_prices.specs.Prices.{ChangesAtMost, Spends};
-ghost use Rattle.wm_spending.specs.Stretches.{mark_count, stretch_count};
+ghost use Rattle.wm_spending.specs.Nets.{Net};
+ghost use Rattle.wm_spending.specs.Stretches.{going_count, stretch_count};
 ghost use Rattle.wm_state.specs.Drafts.{CanDraft, ChangesFew};
 ghost use Rattle.wm_state.specs.State.{State};
 ghost use Rattle.wm_station.specs.Cause.{Rises};
@@ -163,7 +164,7 @@ pub fn run_line<P: Station>(
     ensures pages { P.tells → (n : ℕ) → OnOk result (ChangesAtMost n image.old image.new → ChangesPages store.new (2 * n + 2) (now (P.history station.old)) (now (P.history station.new))) }
     // Where no record changes the file is not touched.
     ensures still { P.tells → OnOk result (ChangesAtMost 0 image.old image.new → P.history station.new ≡ P.history station.old) }
-    ensures net { (workspace : List ℕ) → nets_into (parsed line.now) ≡ Some workspace → IfOk result (λ k. (s : State) → StandsAt image.old sessions.old.items moment s → ChangesAtMost (8 + 8 * stretch_count s workspace + mark_count image.old workspace) image.old image.new) }
+    ensures net { (net : Net) → nets_into (parsed line.now) ≡ Some net → IfOk result (λ k. (s : State) → StandsAt image.old sessions.old.items moment s → ChangesAtMost (8 + 8 * stretch_count s net.workspace + going_count image.old net) image.old image.new) }
     ensures idle { IfOk result (λ k. (s : State) → StandsAt image.old sessions.old.items moment s → is_idle (step s line.now).1 ≡ true → (image.new ≡ image.old) × (sessions.new.items ≡ sessions.old.items) × (k.moment ≡ moment)) }
     // A line that is refused, that reads, that changes no row, or that says nothing does not touch the file, whatever the result.
     ensures unwritten { P.tells → (s : State) → StandsAt image.old sessions.old.items moment s → is_idle (step s line.now).1 ≡ true → P.history station.new ≡ P.history station.old }

@@ -1,5 +1,5 @@
 //! Calls of DBMS_WM.
-ghost use Rattle.std.specs.Prelude.{◌≡◌, ◌<◌, ℕ, List, Some, true, IfOk};
+ghost use Rattle.std.specs.Prelude.{◌≡◌, ◌<◌, Some, true, IfOk};
 ghost use Rattle.wm_syntax.specs.Views.{filter_view};
 ghost use Rattle.wm_base.specs.declared.instant.TheConstants.{END};
 ghost use Rattle.wm_plan.specs.Forks.{AreForks};
@@ -12,13 +12,16 @@ ghost use Rattle.wm_graph.specs.Parts.{parts_of};
 ghost use Rattle.wm_graph.specs.Rules.{keep_rules};
 ghost use Rattle.wm_model.specs.Planning.{IsOpen};
 ghost use Rattle.wm_model.specs.Step.{call_with};
-ghost use Rattle.wm_spending.specs.Nets.{AreNets};
+ghost use Rattle.wm_spending.specs.Nets.{AreNets, Net};
 
 use std::alloc::Global;
 use wm_base::{Memory, Name};
 use wm_freezing::calls::{freeze_call, unfreeze_call};
 use wm_grammar::{Procedure, procedure_of};
 use wm_image::Image;
+use wm_locking::calls::{
+    lock_rows_call, set_locking_off_call, set_locking_on_call, unlock_rows_call,
+};
 use wm_merge::calls::{merge_call, refresh_call};
 use wm_plan::given::Given;
 use wm_plan::planned::Planned;
@@ -56,7 +59,7 @@ fn call_of(
     ensures does { IfOk result (λ p. DoesIt image.now sessions.now moment p (call_with session.now (Some procedure) called.entry.given.args.now (filter_view called.entry.given.condition.now) called.entry.empty)) }
     ensures idle { IfOk result Idles }
     ensures few { forks_call (Some procedure) ≡ true → IfOk result AreForks }
-    ensures nets { (workspace : List ℕ) → nets_call (Some procedure) called.entry.given.args.now ≡ Some workspace → IfOk result (λ p. AreNets image.now workspace p.edits.items) }
+    ensures nets { (net : Net) → nets_call (Some procedure) called.entry.given.args.now ≡ Some net → IfOk result (λ p. AreNets image.now net p.edits.items) }
 {
     let args = called.given.args;
     match procedure {
@@ -80,6 +83,30 @@ fn call_of(
         Procedure::FreezeWorkspace => freeze_call(alloc, image, sessions, moment, session, args),
         Procedure::UnfreezeWorkspace => {
             unfreeze_call(alloc, image, sessions, moment, session, args)
+        }
+        Procedure::SetLockingOn => set_locking_on_call(alloc, session, args),
+        Procedure::SetLockingOff => set_locking_off_call(alloc, session, args),
+        Procedure::LockRows => {
+            lock_rows_call(
+                alloc,
+                image,
+                sessions,
+                moment,
+                session,
+                called.given,
+                called.empty,
+            )
+        }
+        Procedure::UnlockRows => {
+            unlock_rows_call(
+                alloc,
+                image,
+                sessions,
+                moment,
+                session,
+                called.given,
+                called.empty,
+            )
         }
         Procedure::BeginResolve => begin_call(alloc, image, sessions, session, args),
         Procedure::ResolveConflicts => {
@@ -109,7 +136,7 @@ pub fn call(
     // A savepoint or a workspace is made by such an edit alone.
     ensures few { forks_call (procedure_of name.now) ≡ true → IfOk result AreForks }
     // Nor does a refresh, or a merge that removes nothing, make other edits than its own.
-    ensures nets { (workspace : List ℕ) → nets_call (procedure_of name.now) called.entry.given.args.now ≡ Some workspace → IfOk result (λ p. AreNets image.now workspace p.edits.items) }
+    ensures nets { (net : Net) → nets_call (procedure_of name.now) called.entry.given.args.now ≡ Some net → IfOk result (λ p. AreNets image.now net p.edits.items) }
 {
     match procedure_of(name.as_bytes()) {
         Some(procedure) => call_of(alloc, image, sessions, moment, session, procedure, called),

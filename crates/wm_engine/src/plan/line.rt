@@ -1,5 +1,5 @@
 //! A line.
-ghost use Rattle.std.specs.Prelude.{◌≡◌, ◌<◌, ◌≤◌, ℕ, List, length, Some, true, IfOk, Ok as Read};
+ghost use Rattle.std.specs.Prelude.{◌≡◌, ◌<◌, ◌≤◌, length, Some, true, IfOk, Ok as Read};
 ghost use Rattle.wm_base.specs.declared.instant.TheConstants.{END};
 ghost use Rattle.wm_syntax.specs.Views.{line_view};
 ghost use Rattle.wm_plan.specs.Forks.{AreForks};
@@ -12,7 +12,7 @@ ghost use Rattle.wm_graph.specs.Parts.{parts_of};
 ghost use Rattle.wm_graph.specs.Rules.{keep_rules};
 ghost use Rattle.wm_model.specs.Step.{run_line, run_parsed, step, timed_line};
 ghost use Rattle.wm_grammar.specs.Parsed.{parsed};
-ghost use Rattle.wm_spending.specs.Nets.{AreNets};
+ghost use Rattle.wm_spending.specs.Nets.{AreNets, Net};
 
 use crate::plan::statement::run;
 use std::alloc::Global;
@@ -50,7 +50,7 @@ fn plan_line(
     ensures idle { IfOk result (λ t. Idles t.planned) }
     ensures stays { IfOk result (StaysAt moment) }
     ensures few { is_fork_line (line_view line.now) ≡ true → IfOk result (λ t. AreForks t.planned) }
-    ensures nets { (workspace : List ℕ) → nets_of_line (line_view line.now) ≡ Some workspace → IfOk result (λ t. AreNets image.now workspace t.planned.edits.items) }
+    ensures nets { (net : Net) → nets_of_line (line_view line.now) ≡ Some net → IfOk result (λ t. AreNets image.now net t.planned.edits.items) }
 {
     match line {
         Line::Connect { session, user } => {
@@ -95,7 +95,7 @@ fn plan_read(
     ensures idle { IfOk result (λ t. Idles t.planned) }
     ensures stays { IfOk result (StaysAt moment) }
     ensures few { is_fork_line (line_view line.old) ≡ true → IfOk result (λ t. AreForks t.planned) }
-    ensures nets { (workspace : List ℕ) → nets_of_line (line_view line.old) ≡ Some workspace → IfOk result (λ t. AreNets image.now workspace t.planned.edits.items) }
+    ensures nets { (net : Net) → nets_of_line (line_view line.old) ≡ Some net → IfOk result (λ t. AreNets image.now net t.planned.edits.items) }
 {
     if is_later(line) {
         return Ok(Timed::answered(alloc, moment, not_built()));
@@ -121,7 +121,7 @@ fn plan_text(
     ensures idle { IfOk result (λ t. Idles t.planned) }
     ensures stays { IfOk result (StaysAt moment) }
     ensures few { is_fork (parsed text.now) ≡ true → IfOk result (λ t. AreForks t.planned) }
-    ensures nets { (workspace : List ℕ) → nets_into (parsed text.now) ≡ Some workspace → IfOk result (λ t. AreNets image.now workspace t.planned.edits.items) }
+    ensures nets { (net : Net) → nets_into (parsed text.now) ≡ Some net → IfOk result (λ t. AreNets image.now net t.planned.edits.items) }
 {
     match parse(alloc, text) {
         Ok(mut line) => {
@@ -154,7 +154,7 @@ pub fn plan(
     ensures idle { IfOk result (λ t. Idles t.planned) }
     ensures stays { IfOk result (StaysAt moment) }
     ensures few { is_fork (parsed text.now) ≡ true → IfOk result (λ t. AreForks t.planned) }
-    ensures nets { (workspace : List ℕ) → nets_into (parsed text.now) ≡ Some workspace → IfOk result (λ t. AreNets image.now workspace t.planned.edits.items) }
+    ensures nets { (net : Net) → nets_into (parsed text.now) ≡ Some net → IfOk result (λ t. AreNets image.now net t.planned.edits.items) }
 {
     if text.len() > LINE_LIMIT {
         return Ok(Timed::answered(alloc, moment, too_long_line()));

@@ -1,5 +1,5 @@
 //! A statement of a session.
-ghost use Rattle.std.specs.Prelude.{◌≡◌, ◌<◌, ℕ, List, Some, true, IfOk};
+ghost use Rattle.std.specs.Prelude.{◌≡◌, ◌<◌, Some, true, IfOk};
 ghost use Rattle.wm_base.specs.declared.instant.TheConstants.{END};
 ghost use Rattle.wm_syntax.specs.Views.{statement_view};
 ghost use Rattle.wm_plan.specs.Forks.{AreForks};
@@ -11,7 +11,7 @@ ghost use Rattle.wm_graph.specs.Parts.{parts_of};
 ghost use Rattle.wm_graph.specs.Rules.{keep_rules};
 ghost use Rattle.wm_model.specs.Planning.{IsOpen};
 ghost use Rattle.wm_model.specs.Step.{run_for, run_statement, session_of, statement_done};
-ghost use Rattle.wm_spending.specs.Nets.{AreNets};
+ghost use Rattle.wm_spending.specs.Nets.{AreNets, Net};
 
 use crate::plan::call::{Called, call};
 use std::alloc::Global;
@@ -48,7 +48,7 @@ fn statement_done(
     // A savepoint or a workspace is made by such an edit alone.
     ensures few { forks (statement_view statement.now) ≡ true → IfOk result AreForks }
     // Nor does a refresh, or a merge that removes nothing, make other edits than its own.
-    ensures nets { (workspace : List ℕ) → nets (statement_view statement.now) ≡ Some workspace → IfOk result (λ p. AreNets image.now workspace p.edits.items) }
+    ensures nets { (net : Net) → nets (statement_view statement.now) ≡ Some net → IfOk result (λ p. AreNets image.now net p.edits.items) }
 {
     let empty = has_empty_period(statement);
     match statement {
@@ -113,7 +113,7 @@ fn run_statement(
     ensures does { IfOk result (λ p. DoesIt image.now sessions.now moment p (run_statement session.now (statement_view statement.now))) }
     ensures idle { IfOk result Idles }
     ensures few { forks (statement_view statement.now) ≡ true → IfOk result AreForks }
-    ensures nets { (workspace : List ℕ) → nets (statement_view statement.now) ≡ Some workspace → IfOk result (λ p. AreNets image.now workspace p.edits.items) }
+    ensures nets { (net : Net) → nets (statement_view statement.now) ≡ Some net → IfOk result (λ p. AreNets image.now net p.edits.items) }
 {
     let planned = statement_done(alloc, image, sessions, moment, session, statement)?;
     let ground = Ground {
@@ -144,7 +144,7 @@ pub fn run(
     ensures does { IfOk result (λ p. DoesIt image.now sessions.now moment p (λ s. run_for name.now (session_of name.now s.sessions) (statement_view statement.now) s)) }
     ensures idle { IfOk result Idles }
     ensures few { forks (statement_view statement.now) ≡ true → IfOk result AreForks }
-    ensures nets { (workspace : List ℕ) → nets (statement_view statement.now) ≡ Some workspace → IfOk result (λ p. AreNets image.now workspace p.edits.items) }
+    ensures nets { (net : Net) → nets (statement_view statement.now) ≡ Some net → IfOk result (λ p. AreNets image.now net p.edits.items) }
 {
     let Some(session) = session_named(sessions, name) else {
         return Ok(Planned::answered(alloc, no_session(name.copy(alloc)?)));

@@ -152,5 +152,5 @@ returns-in-Ok-keep-clause-sound g c = λ told.
 -- ---- lines that refresh or merge
 
 pub returns-in-Ok-keep-clause-net : goal.returns-in-Ok-keep-clause-net
-returns-in-Ok-keep-clause-net g c = λ workspace named s stands.
-    spends_few c.args.image.now c.keep.new.image c.args.sessions.now.items c.args.moment c.args.moment workspace c.in_ok-planned.field-0.planned.edits.items s stands (c.in_ok-planned.ensures.nets workspace named) c.in-Ok-keep.ensures.spends
+returns-in-Ok-keep-clause-net g c = λ net named s stands.
+    spends_few c.args.image.now c.keep.new.image c.args.sessions.now.items c.args.moment c.args.moment net c.in_ok-planned.field-0.planned.edits.items s stands (c.in_ok-planned.ensures.nets net named) c.in-Ok-keep.ensures.spends

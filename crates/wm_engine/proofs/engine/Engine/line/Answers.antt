@@ -13,7 +13,7 @@ use Rattle.wm_engine.proofs.Working.{stands_over}
 use Rattle.wm_state.specs.Drafts.{ChangesFew}
 use Rattle.wm_engine.specs.Working.{Engaged, StandsFor}
 use Rattle.wm_prices.specs.Prices.{ChangesAtMost}
-use Rattle.wm_spending.specs.Stretches.{mark_count, stretch_count}
+use Rattle.wm_spending.specs.Stretches.{going_count, stretch_count}
 use Rattle.wm_engine.proofs.engine.Engine.line.Goals as goal
 
 pub returns-in_default-clause-any_moment : goal.returns-in_default-clause-any_moment
@@ -132,9 +132,9 @@ returns-in_default-clause-sound g c = λ told rules. sound_begun _ _ _ (c.requir
 -- ---- lines that refresh or merge
 
 pub returns-in-Ok-clause-net : goal.returns-in-Ok-clause-net
-returns-in-Ok-clause-net g c = λ workspace named s for.
+returns-in-Ok-clause-net g c = λ net named s for.
     let here = ap (λ (o : Option (List Stored)). unwrap_or o []) (sym c.in-Some.ensures.value) in
     let after = ap (λ (o : Option (List Stored)). unwrap_or o []) (sym c.replace.ensures.after) in
-    subst (λ (rs : List Stored). ChangesAtMost (8 + 8 * stretch_count s workspace + mark_count c.args.self.now.records workspace) c.args.self.now.records rs) after
-    (subst (λ (rs : List Stored). ChangesAtMost (8 + 8 * stretch_count s workspace + mark_count rs workspace) rs c.run_line.new.image) (sym (ap (λ (e : Engaged). e.records) (sym c.self.view_is) ∙ here))
-    (c.in-Ok.ensures.net workspace named s (stands_at _ c.in-Some.image s here (subst (λ (e : Engaged). StandsFor e s) (sym c.self.view_is) for))))
+    subst (λ (rs : List Stored). ChangesAtMost (8 + 8 * stretch_count s net.workspace + going_count c.args.self.now.records net) c.args.self.now.records rs) after
+    (subst (λ (rs : List Stored). ChangesAtMost (8 + 8 * stretch_count s net.workspace + going_count rs net) rs c.run_line.new.image) (sym (ap (λ (e : Engaged). e.records) (sym c.self.view_is) ∙ here))
+    (c.in-Ok.ensures.net net named s (stands_at _ c.in-Some.image s here (subst (λ (e : Engaged). StandsFor e s) (sym c.self.view_is) for))))

@@ -24,9 +24,9 @@ returns-in-None-clause-does c =
 -- ---- lines that refresh or merge
 
 pub returns-in-Some-clause-nets : goal.returns-in-Some-clause-nets
-returns-in-Some-clause-nets c = λ workspace named.
+returns-in-Some-clause-nets c = λ net named.
     let is : procedure_of c.args.name.now ≡ Some c.in-Some.procedure = ap procedure_of (sym c.as_bytes.ensures) ∙ sym c.in-Some.ensures in
-    c.call_of.ensures.nets workspace (ap (λ (o : Option Procedure). nets_call o c.args.called.given.args.now) (sym is) ∙ named)
+    c.call_of.ensures.nets net (ap (λ (o : Option Procedure). nets_call o c.args.called.given.args.now) (sym is) ∙ named)
 
 pub returns-in-None-clause-nets : goal.returns-in-None-clause-nets
-returns-in-None-clause-nets c = λ workspace named. Nothing c.answered.ensures.edits
+returns-in-None-clause-nets c = λ net named. Nothing c.answered.ensures.edits

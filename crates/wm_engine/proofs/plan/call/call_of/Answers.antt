@@ -4,14 +4,14 @@ use Rattle.wm_syntax.specs.Views.{filter_view}
 use Rattle.wm_grammar.specs.declared.procedure.Procedure.{Procedure}
 use Rattle.wm_grammar.specs.declared.procedure.Procedure.TheVariants as procedures
 use Rattle.wm_model.specs.Step.{call, call_with, not_built}
-use Rattle.wm_plan.proofs.Planning.{refused, does_here, for_moment, for_one, for_open, for_open_one, for_these, forks_none, is_open_here}
+use Rattle.wm_plan.proofs.Planning.{refused, does_here, for_any, for_moment, for_one, for_open, for_open_one, for_these, forks_none, is_open_here}
 use Rattle.wm_engine.proofs.Calling.{other_call}
 use Rattle.wm_plan.specs.Views.{answer_view}
 use Rattle.wm_calls.specs.Arguments.{is_true_given}
 use Rattle.wm_grammar.specs.declared.procedure.Parameter.TheVariants as parameters
 use Rattle.wm_engine.specs.NetLines.{nets_call}
 use Rattle.wm_engine.proofs.NetLines.{merges_alone}
-use Rattle.wm_spending.specs.Nets.{AreNets, Nothing}
+use Rattle.wm_spending.specs.Nets.{AreNets, Net, Nothing}
 use Rattle.wm_engine.proofs.plan.call.call_of.Goals as goal
 
 pub returns-in-EnableVersioning-clause-does : goal.returns-in-EnableVersioning-clause-does
@@ -79,6 +79,26 @@ returns-in-UnfreezeWorkspace-clause-does c =
     does_here c.args.image.now c.args.sessions.now c.args.moment c.unfreeze_call.result (call c.args.session.now (Some procedures.UnfreezeWorkspace) c.args.called.given.args.now) (call_with c.args.session.now (Some c.args.procedure) c.args.called.given.args.now (filter_view c.args.called.given.condition.now) c.args.called.empty)
     (λ s. ap (λ (p : Procedure). call_with c.args.session.now (Some p) c.args.called.given.args.now (filter_view c.args.called.given.condition.now) c.args.called.empty s) c.in-UnfreezeWorkspace.is) c.unfreeze_call.ensures.does
 
+pub returns-in-SetLockingOn-clause-does : goal.returns-in-SetLockingOn-clause-does
+returns-in-SetLockingOn-clause-does c =
+    for_any c.args.image.now c.args.sessions.now c.args.moment c.set_locking_on_call.result (call c.args.session.now (Some procedures.SetLockingOn) c.args.called.given.args.now) (call_with c.args.session.now (Some c.args.procedure) c.args.called.given.args.now (filter_view c.args.called.given.condition.now) c.args.called.empty)
+    (λ s. ap (λ (p : Procedure). call_with c.args.session.now (Some p) c.args.called.given.args.now (filter_view c.args.called.given.condition.now) c.args.called.empty s) c.in-SetLockingOn.is) c.set_locking_on_call.ensures.does
+
+pub returns-in-SetLockingOff-clause-does : goal.returns-in-SetLockingOff-clause-does
+returns-in-SetLockingOff-clause-does c =
+    for_any c.args.image.now c.args.sessions.now c.args.moment c.set_locking_off_call.result (call c.args.session.now (Some procedures.SetLockingOff) c.args.called.given.args.now) (call_with c.args.session.now (Some c.args.procedure) c.args.called.given.args.now (filter_view c.args.called.given.condition.now) c.args.called.empty)
+    (λ s. ap (λ (p : Procedure). call_with c.args.session.now (Some p) c.args.called.given.args.now (filter_view c.args.called.given.condition.now) c.args.called.empty s) c.in-SetLockingOff.is) c.set_locking_off_call.ensures.does
+
+pub returns-in-LockRows-clause-does : goal.returns-in-LockRows-clause-does
+returns-in-LockRows-clause-does c =
+    does_here c.args.image.now c.args.sessions.now c.args.moment c.lock_rows_call.result (call_with c.args.session.now (Some procedures.LockRows) c.args.called.given.args.now (filter_view c.args.called.given.condition.now) c.args.called.empty) (call_with c.args.session.now (Some c.args.procedure) c.args.called.given.args.now (filter_view c.args.called.given.condition.now) c.args.called.empty)
+    (λ s. ap (λ (p : Procedure). call_with c.args.session.now (Some p) c.args.called.given.args.now (filter_view c.args.called.given.condition.now) c.args.called.empty s) c.in-LockRows.is) c.lock_rows_call.ensures.does
+
+pub returns-in-UnlockRows-clause-does : goal.returns-in-UnlockRows-clause-does
+returns-in-UnlockRows-clause-does c =
+    does_here c.args.image.now c.args.sessions.now c.args.moment c.unlock_rows_call.result (call_with c.args.session.now (Some procedures.UnlockRows) c.args.called.given.args.now (filter_view c.args.called.given.condition.now) c.args.called.empty) (call_with c.args.session.now (Some c.args.procedure) c.args.called.given.args.now (filter_view c.args.called.given.condition.now) c.args.called.empty)
+    (λ s. ap (λ (p : Procedure). call_with c.args.session.now (Some p) c.args.called.given.args.now (filter_view c.args.called.given.condition.now) c.args.called.empty s) c.in-UnlockRows.is) c.unlock_rows_call.ensures.does
+
 pub returns-in-BeginResolve-clause-does : goal.returns-in-BeginResolve-clause-does
 returns-in-BeginResolve-clause-does c =
     for_moment c.args.image.now c.args.sessions.now c.args.moment c.begin_call.result (call c.args.session.now (Some procedures.BeginResolve) c.args.called.given.args.now) (call_with c.args.session.now (Some c.args.procedure) c.args.called.given.args.now (filter_view c.args.called.given.condition.now) c.args.called.empty)
@@ -105,66 +125,78 @@ returns-in_default c = record {
       refused c.args.image.now c.args.sessions.now c.args.moment c.answered.result not_built (call_with c.args.session.now (Some c.args.procedure) c.args.called.given.args.now (filter_view c.args.called.given.condition.now) c.args.called.empty) c.answered.ensures.edits c.answered.ensures.seating
       (ap answer_view c.answered.ensures.answer ∙ c.not_built.ensures) c.requires.rules
       (λ s. other_call c.args.session.now c.args.procedure c.args.called.given.args.now (filter_view c.args.called.given.condition.now) c.args.called.empty s c.in_default.not-EnableVersioning c.in_default.not-CreateWorkspace c.in_default.not-CreateSavepoint c.in_default.not-GotoWorkspace c.in_default.not-GotoSavepoint c.in_default.not-SetConflictWorkspace c.in_default.not-SetValidTime
-      c.in_default.not-RollbackToSp c.in_default.not-RemoveWorkspace c.in_default.not-RefreshWorkspace c.in_default.not-MergeWorkspace c.in_default.not-FreezeWorkspace c.in_default.not-UnfreezeWorkspace c.in_default.not-BeginResolve c.in_default.not-ResolveConflicts
+      c.in_default.not-RollbackToSp c.in_default.not-RemoveWorkspace c.in_default.not-RefreshWorkspace c.in_default.not-MergeWorkspace c.in_default.not-FreezeWorkspace c.in_default.not-UnfreezeWorkspace c.in_default.not-SetLockingOn c.in_default.not-SetLockingOff c.in_default.not-LockRows c.in_default.not-UnlockRows c.in_default.not-BeginResolve c.in_default.not-ResolveConflicts
       c.in_default.not-CommitResolve c.in_default.not-RollbackResolve);
   idle = λ idle. (c.answered.ensures.edits, c.answered.ensures.seating);
   few = λ forks. forks_none c.answered.result c.answered.ensures.edits;
-  nets = λ workspace named. Nothing c.answered.ensures.edits;
+  nets = λ net named. Nothing c.answered.ensures.edits;
 }
 
 -- ---- lines that refresh or merge
 
 pub returns-in-EnableVersioning-clause-nets : goal.returns-in-EnableVersioning-clause-nets
-returns-in-EnableVersioning-clause-nets c = λ workspace named. absurd (none-some workspace (ap (λ (p : Procedure). nets_call (Some p) c.args.called.given.args.now) (sym c.in-EnableVersioning.is) ∙ named))
+returns-in-EnableVersioning-clause-nets c = λ net named. absurd (none-some net (ap (λ (p : Procedure). nets_call (Some p) c.args.called.given.args.now) (sym c.in-EnableVersioning.is) ∙ named))
 
 pub returns-in-CreateWorkspace-clause-nets : goal.returns-in-CreateWorkspace-clause-nets
-returns-in-CreateWorkspace-clause-nets c = λ workspace named. absurd (none-some workspace (ap (λ (p : Procedure). nets_call (Some p) c.args.called.given.args.now) (sym c.in-CreateWorkspace.is) ∙ named))
+returns-in-CreateWorkspace-clause-nets c = λ net named. absurd (none-some net (ap (λ (p : Procedure). nets_call (Some p) c.args.called.given.args.now) (sym c.in-CreateWorkspace.is) ∙ named))
 
 pub returns-in-CreateSavepoint-clause-nets : goal.returns-in-CreateSavepoint-clause-nets
-returns-in-CreateSavepoint-clause-nets c = λ workspace named. absurd (none-some workspace (ap (λ (p : Procedure). nets_call (Some p) c.args.called.given.args.now) (sym c.in-CreateSavepoint.is) ∙ named))
+returns-in-CreateSavepoint-clause-nets c = λ net named. absurd (none-some net (ap (λ (p : Procedure). nets_call (Some p) c.args.called.given.args.now) (sym c.in-CreateSavepoint.is) ∙ named))
 
 pub returns-in-GotoWorkspace-clause-nets : goal.returns-in-GotoWorkspace-clause-nets
-returns-in-GotoWorkspace-clause-nets c = λ workspace named. absurd (none-some workspace (ap (λ (p : Procedure). nets_call (Some p) c.args.called.given.args.now) (sym c.in-GotoWorkspace.is) ∙ named))
+returns-in-GotoWorkspace-clause-nets c = λ net named. absurd (none-some net (ap (λ (p : Procedure). nets_call (Some p) c.args.called.given.args.now) (sym c.in-GotoWorkspace.is) ∙ named))
 
 pub returns-in-GotoSavepoint-clause-nets : goal.returns-in-GotoSavepoint-clause-nets
-returns-in-GotoSavepoint-clause-nets c = λ workspace named. absurd (none-some workspace (ap (λ (p : Procedure). nets_call (Some p) c.args.called.given.args.now) (sym c.in-GotoSavepoint.is) ∙ named))
+returns-in-GotoSavepoint-clause-nets c = λ net named. absurd (none-some net (ap (λ (p : Procedure). nets_call (Some p) c.args.called.given.args.now) (sym c.in-GotoSavepoint.is) ∙ named))
 
 pub returns-in-SetConflictWorkspace-clause-nets : goal.returns-in-SetConflictWorkspace-clause-nets
-returns-in-SetConflictWorkspace-clause-nets c = λ workspace named. absurd (none-some workspace (ap (λ (p : Procedure). nets_call (Some p) c.args.called.given.args.now) (sym c.in-SetConflictWorkspace.is) ∙ named))
+returns-in-SetConflictWorkspace-clause-nets c = λ net named. absurd (none-some net (ap (λ (p : Procedure). nets_call (Some p) c.args.called.given.args.now) (sym c.in-SetConflictWorkspace.is) ∙ named))
 
 pub returns-in-SetValidTime-clause-nets : goal.returns-in-SetValidTime-clause-nets
-returns-in-SetValidTime-clause-nets c = λ workspace named. absurd (none-some workspace (ap (λ (p : Procedure). nets_call (Some p) c.args.called.given.args.now) (sym c.in-SetValidTime.is) ∙ named))
+returns-in-SetValidTime-clause-nets c = λ net named. absurd (none-some net (ap (λ (p : Procedure). nets_call (Some p) c.args.called.given.args.now) (sym c.in-SetValidTime.is) ∙ named))
 
 pub returns-in-RollbackToSp-clause-nets : goal.returns-in-RollbackToSp-clause-nets
-returns-in-RollbackToSp-clause-nets c = λ workspace named. absurd (none-some workspace (ap (λ (p : Procedure). nets_call (Some p) c.args.called.given.args.now) (sym c.in-RollbackToSp.is) ∙ named))
+returns-in-RollbackToSp-clause-nets c = λ net named. absurd (none-some net (ap (λ (p : Procedure). nets_call (Some p) c.args.called.given.args.now) (sym c.in-RollbackToSp.is) ∙ named))
 
 pub returns-in-RemoveWorkspace-clause-nets : goal.returns-in-RemoveWorkspace-clause-nets
-returns-in-RemoveWorkspace-clause-nets c = λ workspace named. absurd (none-some workspace (ap (λ (p : Procedure). nets_call (Some p) c.args.called.given.args.now) (sym c.in-RemoveWorkspace.is) ∙ named))
+returns-in-RemoveWorkspace-clause-nets c = λ net named. absurd (none-some net (ap (λ (p : Procedure). nets_call (Some p) c.args.called.given.args.now) (sym c.in-RemoveWorkspace.is) ∙ named))
 
 pub returns-in-FreezeWorkspace-clause-nets : goal.returns-in-FreezeWorkspace-clause-nets
-returns-in-FreezeWorkspace-clause-nets c = λ workspace named. absurd (none-some workspace (ap (λ (p : Procedure). nets_call (Some p) c.args.called.given.args.now) (sym c.in-FreezeWorkspace.is) ∙ named))
+returns-in-FreezeWorkspace-clause-nets c = λ net named. absurd (none-some net (ap (λ (p : Procedure). nets_call (Some p) c.args.called.given.args.now) (sym c.in-FreezeWorkspace.is) ∙ named))
 
 pub returns-in-UnfreezeWorkspace-clause-nets : goal.returns-in-UnfreezeWorkspace-clause-nets
-returns-in-UnfreezeWorkspace-clause-nets c = λ workspace named. absurd (none-some workspace (ap (λ (p : Procedure). nets_call (Some p) c.args.called.given.args.now) (sym c.in-UnfreezeWorkspace.is) ∙ named))
+returns-in-UnfreezeWorkspace-clause-nets c = λ net named. absurd (none-some net (ap (λ (p : Procedure). nets_call (Some p) c.args.called.given.args.now) (sym c.in-UnfreezeWorkspace.is) ∙ named))
+
+pub returns-in-SetLockingOn-clause-nets : goal.returns-in-SetLockingOn-clause-nets
+returns-in-SetLockingOn-clause-nets c = λ workspace named. absurd (none-some workspace (ap (λ (p : Procedure). nets_call (Some p) c.args.called.given.args.now) (sym c.in-SetLockingOn.is) ∙ named))
+
+pub returns-in-SetLockingOff-clause-nets : goal.returns-in-SetLockingOff-clause-nets
+returns-in-SetLockingOff-clause-nets c = λ workspace named. absurd (none-some workspace (ap (λ (p : Procedure). nets_call (Some p) c.args.called.given.args.now) (sym c.in-SetLockingOff.is) ∙ named))
+
+pub returns-in-LockRows-clause-nets : goal.returns-in-LockRows-clause-nets
+returns-in-LockRows-clause-nets c = λ workspace named. absurd (none-some workspace (ap (λ (p : Procedure). nets_call (Some p) c.args.called.given.args.now) (sym c.in-LockRows.is) ∙ named))
+
+pub returns-in-UnlockRows-clause-nets : goal.returns-in-UnlockRows-clause-nets
+returns-in-UnlockRows-clause-nets c = λ workspace named. absurd (none-some workspace (ap (λ (p : Procedure). nets_call (Some p) c.args.called.given.args.now) (sym c.in-UnlockRows.is) ∙ named))
 
 pub returns-in-BeginResolve-clause-nets : goal.returns-in-BeginResolve-clause-nets
-returns-in-BeginResolve-clause-nets c = λ workspace named. absurd (none-some workspace (ap (λ (p : Procedure). nets_call (Some p) c.args.called.given.args.now) (sym c.in-BeginResolve.is) ∙ named))
+returns-in-BeginResolve-clause-nets c = λ net named. absurd (none-some net (ap (λ (p : Procedure). nets_call (Some p) c.args.called.given.args.now) (sym c.in-BeginResolve.is) ∙ named))
 
 pub returns-in-ResolveConflicts-clause-nets : goal.returns-in-ResolveConflicts-clause-nets
-returns-in-ResolveConflicts-clause-nets c = λ workspace named. absurd (none-some workspace (ap (λ (p : Procedure). nets_call (Some p) c.args.called.given.args.now) (sym c.in-ResolveConflicts.is) ∙ named))
+returns-in-ResolveConflicts-clause-nets c = λ net named. absurd (none-some net (ap (λ (p : Procedure). nets_call (Some p) c.args.called.given.args.now) (sym c.in-ResolveConflicts.is) ∙ named))
 
 pub returns-in-CommitResolve-clause-nets : goal.returns-in-CommitResolve-clause-nets
-returns-in-CommitResolve-clause-nets c = λ workspace named. absurd (none-some workspace (ap (λ (p : Procedure). nets_call (Some p) c.args.called.given.args.now) (sym c.in-CommitResolve.is) ∙ named))
+returns-in-CommitResolve-clause-nets c = λ net named. absurd (none-some net (ap (λ (p : Procedure). nets_call (Some p) c.args.called.given.args.now) (sym c.in-CommitResolve.is) ∙ named))
 
 pub returns-in-RollbackResolve-clause-nets : goal.returns-in-RollbackResolve-clause-nets
-returns-in-RollbackResolve-clause-nets c = λ workspace named. absurd (none-some workspace (ap (λ (p : Procedure). nets_call (Some p) c.args.called.given.args.now) (sym c.in-RollbackResolve.is) ∙ named))
+returns-in-RollbackResolve-clause-nets c = λ net named. absurd (none-some net (ap (λ (p : Procedure). nets_call (Some p) c.args.called.given.args.now) (sym c.in-RollbackResolve.is) ∙ named))
 
 pub returns-in-RefreshWorkspace-clause-nets : goal.returns-in-RefreshWorkspace-clause-nets
-returns-in-RefreshWorkspace-clause-nets c = λ workspace named.
-    subst (λ (w : List ℕ). IfOk c.refresh_call.result (λ p. AreNets c.args.image.now w p.edits.items)) (same_Some _ workspace (ap (λ (p : Procedure). nets_call (Some p) c.args.called.given.args.now) (sym c.in-RefreshWorkspace.is) ∙ named))
+returns-in-RefreshWorkspace-clause-nets c = λ net named.
+    subst (λ (n : Net). IfOk c.refresh_call.result (λ p. AreNets c.args.image.now n p.edits.items)) (same_Some _ net (ap (λ (p : Procedure). nets_call (Some p) c.args.called.given.args.now) (sym c.in-RefreshWorkspace.is) ∙ named))
     c.refresh_call.ensures.nets
 
 pub returns-in-MergeWorkspace-clause-nets : goal.returns-in-MergeWorkspace-clause-nets
-returns-in-MergeWorkspace-clause-nets c = λ workspace named.
-    let alone = merges_alone (is_true_given procedures.MergeWorkspace c.args.called.given.args.now parameters.RemoveWorkspace) _ workspace (ap (λ (p : Procedure). nets_call (Some p) c.args.called.given.args.now) (sym c.in-MergeWorkspace.is) ∙ named) in
-    subst (λ (w : List ℕ). IfOk c.merge_call.result (λ p. AreNets c.args.image.now w p.edits.items)) alone.1 (c.merge_call.ensures.nets alone.0)
+returns-in-MergeWorkspace-clause-nets c = λ net named.
+    let alone = merges_alone (is_true_given procedures.MergeWorkspace c.args.called.given.args.now parameters.RemoveWorkspace) _ net (ap (λ (p : Procedure). nets_call (Some p) c.args.called.given.args.now) (sym c.in-MergeWorkspace.is) ∙ named) in
+    subst (λ (n : Net). IfOk c.merge_call.result (λ p. AreNets c.args.image.now n p.edits.items)) alone.1 (c.merge_call.ensures.nets alone.0)

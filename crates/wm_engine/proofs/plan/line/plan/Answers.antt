@@ -44,10 +44,10 @@ returns-clause-does c =
 -- ---- lines that refresh or merge
 
 pub returns-then-text-gt-LINE_LIMIT-clause-nets : goal.returns-then-text-gt-LINE_LIMIT-clause-nets
-returns-then-text-gt-LINE_LIMIT-clause-nets c = λ workspace named. Nothing c.answered.ensures.edits
+returns-then-text-gt-LINE_LIMIT-clause-nets c = λ net named. Nothing c.answered.ensures.edits
 
 pub returns-then-is_remark-clause-nets : goal.returns-then-is_remark-clause-nets
-returns-then-is_remark-clause-nets c = λ workspace named. Nothing c.answered-then-is_remark.ensures.edits
+returns-then-is_remark-clause-nets c = λ net named. Nothing c.answered-then-is_remark.ensures.edits
 
 pub returns-then-not-is_text-clause-nets : goal.returns-then-not-is_text-clause-nets
-returns-then-not-is_text-clause-nets c = λ workspace named. Nothing c.answered-then-not-is_text.ensures.edits
+returns-then-not-is_text-clause-nets c = λ net named. Nothing c.answered-then-not-is_text.ensures.edits

@@ -23,10 +23,10 @@ returns-in-At-clause-does c = rw c.in-At.is (c.at_moment.ensures.does c.args.ima
 -- ---- lines that refresh or merge
 
 pub returns-in_ok-planned-in-Connect-clause-nets : goal.returns-in_ok-planned-in-Connect-clause-nets
-returns-in_ok-planned-in-Connect-clause-nets c = rw c.in-Connect.is (λ workspace named. absurd (none-some workspace named))
+returns-in_ok-planned-in-Connect-clause-nets c = rw c.in-Connect.is (λ net named. absurd (none-some net named))
 
 pub returns-in_ok-planned-in-Disconnect-clause-nets : goal.returns-in_ok-planned-in-Disconnect-clause-nets
-returns-in_ok-planned-in-Disconnect-clause-nets c = rw c.in-Disconnect.is (λ workspace named. absurd (none-some workspace named))
+returns-in_ok-planned-in-Disconnect-clause-nets c = rw c.in-Disconnect.is (λ net named. absurd (none-some net named))
 
 pub returns-in-At-clause-nets : goal.returns-in-At-clause-nets
-returns-in-At-clause-nets c = rw c.in-At.is (λ workspace named. absurd (none-some workspace named))
+returns-in-At-clause-nets c = rw c.in-At.is (λ net named. absurd (none-some net named))

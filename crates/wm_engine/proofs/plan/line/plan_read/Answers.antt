@@ -20,8 +20,8 @@ plan_line-requires-clause-timely c = rw c.set_moment_in.ensures (timely_timed c.
 -- ---- lines that refresh or merge
 
 pub returns-then-is_later-clause-nets : goal.returns-then-is_later-clause-nets
-returns-then-is_later-clause-nets c = λ workspace named. Nothing c.answered.ensures.edits
+returns-then-is_later-clause-nets c = λ net named. Nothing c.answered.ensures.edits
 
 pub returns-clause-nets : goal.returns-clause-nets
-returns-clause-nets c = λ workspace named.
-    c.plan_line.ensures.nets workspace (ap nets_of_line c.set_moment_in.ensures ∙ nets_timed c.unwrap-now.result (line_view c.args.line.now) ∙ named)
+returns-clause-nets c = λ net named.
+    c.plan_line.ensures.nets net (ap nets_of_line c.set_moment_in.ensures ∙ nets_timed c.unwrap-now.result (line_view c.args.line.now) ∙ named)

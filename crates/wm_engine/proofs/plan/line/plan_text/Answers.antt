@@ -27,7 +27,7 @@ returns-in-Err-Literal-clause-does c =
 -- ---- lines that refresh or merge
 
 pub returns-in-Err-Syntax-clause-nets : goal.returns-in-Err-Syntax-clause-nets
-returns-in-Err-Syntax-clause-nets c = λ workspace named. Nothing c.answered.ensures.edits
+returns-in-Err-Syntax-clause-nets c = λ net named. Nothing c.answered.ensures.edits
 
 pub returns-in-Err-Literal-clause-nets : goal.returns-in-Err-Literal-clause-nets
-returns-in-Err-Literal-clause-nets c = λ workspace named. Nothing c.answered-in-Err-Literal.ensures.edits
+returns-in-Err-Literal-clause-nets c = λ net named. Nothing c.answered-in-Err-Literal.ensures.edits

@@ -39,4 +39,4 @@ run_statement-requires-clause-open c = record { name = c.args.name.now; found = 
 -- ---- lines that refresh or merge
 
 pub returns-in_default-clause-nets : goal.returns-in_default-clause-nets
-returns-in_default-clause-nets c = λ workspace named. Nothing c.answered.ensures.edits
+returns-in_default-clause-nets c = λ net named. Nothing c.answered.ensures.edits

@@ -21,5 +21,5 @@ pub returns-in-Ok-clause-few : goal.returns-in-Ok-clause-few
 returns-in-Ok-clause-few c = λ forks. forks_barred c.in_ok-planned.planned c.barred.result c.in-Ok.fault c.barred.ensures (c.in_ok-planned.ensures.few forks)
 
 pub returns-in-Ok-clause-nets : goal.returns-in-Ok-clause-nets
-returns-in-Ok-clause-nets c = λ workspace named.
-    edits_barred c.in_ok-planned.planned c.barred.result c.in-Ok.fault c.barred.ensures (AreNets c.args.image.now workspace) (c.in_ok-planned.ensures.nets workspace named) (Nothing refl)
+returns-in-Ok-clause-nets c = λ net named.
+    edits_barred c.in_ok-planned.planned c.barred.result c.in-Ok.fault c.barred.ensures (AreNets c.args.image.now net) (c.in_ok-planned.ensures.nets net named) (Nothing refl)

@@ -65,19 +65,19 @@ select-requires-clause-lasting c = λ none. select_lasts (query_view c.in-Select
 -- ---- lines that refresh or merge
 
 pub returns-in-Create-clause-nets : goal.returns-in-Create-clause-nets
-returns-in-Create-clause-nets c = rw c.in-Create.is (λ workspace named. absurd (none-some workspace named))
+returns-in-Create-clause-nets c = rw c.in-Create.is (λ net named. absurd (none-some net named))
 
 pub returns-in-Insert-clause-nets : goal.returns-in-Insert-clause-nets
-returns-in-Insert-clause-nets c = rw c.in-Insert.is (λ workspace named. absurd (none-some workspace named))
+returns-in-Insert-clause-nets c = rw c.in-Insert.is (λ net named. absurd (none-some net named))
 
 pub returns-in-Update-clause-nets : goal.returns-in-Update-clause-nets
-returns-in-Update-clause-nets c = rw c.in-Update.is (λ workspace named. absurd (none-some workspace named))
+returns-in-Update-clause-nets c = rw c.in-Update.is (λ net named. absurd (none-some net named))
 
 pub returns-in-Delete-clause-nets : goal.returns-in-Delete-clause-nets
-returns-in-Delete-clause-nets c = rw c.in-Delete.is (λ workspace named. absurd (none-some workspace named))
+returns-in-Delete-clause-nets c = rw c.in-Delete.is (λ net named. absurd (none-some net named))
 
 pub returns-in-Select-clause-nets : goal.returns-in-Select-clause-nets
-returns-in-Select-clause-nets c = rw c.in-Select.is (λ workspace named. absurd (none-some workspace named))
+returns-in-Select-clause-nets c = rw c.in-Select.is (λ net named. absurd (none-some net named))
 
 pub returns-in-Call-clause-nets : goal.returns-in-Call-clause-nets
 returns-in-Call-clause-nets c =
