@@ -1,5 +1,5 @@
 #!/usr/bin/env python3
-"""Holds the program against its bounds: durable lines, lines in memory, old and deep tables, sqlite3, opening and memory.
+"""Holds the program against its bounds: durable lines, lines in memory, old and deep tables, locks, sqlite3, opening and memory.
 
     python3 bench/figures.py build/wm [ROWS]
 
@@ -28,7 +28,7 @@ TIMES = 5
 # How many lines are timed together, and how many durable ones, in how many turns.
 LINES, DURABLE, TURNS = 1_000, 100, 9
 PAGE, WRITES = 4_096, 4
-VERSIONS, JOINED, FEW, MANY = 4_000, 10_000, 500, 2_000
+VERSIONS, JOINED, FEW, MANY, LOCKS = 4_000, 10_000, 500, 2_000, 10_000
 
 over = []
 
@@ -202,6 +202,21 @@ def periods(program, folder):
     told(f"  to one of {FEW}", many / few, "times", 4)
 
 
+def locks(program, folder):
+    """INSERT lines beside no locks, and as many of other keys beside many; and the line that locks."""
+    run = Timed(program, f"{folder}/locks.store")
+    run.fill("BUD", LOCKS)
+    none = of_lines(run, inserts(LOCKS), ["DONE 1"] * LINES)
+    locking = run.work([f"A: EXECUTE DBMS_WM.LockRows('LIVE', 'BUD', 'ID < {LOCKS}')"], [f"DONE {LOCKS}"])
+    many = of_lines(run, inserts(LOCKS + LINES), ["DONE 1"] * LINES)
+    run.work(["A: SELECT COUNT(*) FROM BUD_LOCK"], [str(LOCKS), "ROWS 1"])
+    run.end()
+    told("an INSERT line beside no locks", none, "us")
+    told(f"an INSERT line beside {LOCKS:,} locks of other keys", many, "us")
+    told("  to that beside none", many / none, "times", 1.3)
+    told("  the line that locked them, for each", locking / LOCKS * MICRO, "us")
+
+
 def main():
     program = str(Path(sys.argv[1]).resolve())
     rows = int(sys.argv[2]) if len(sys.argv) > 2 else 100_000
@@ -212,6 +227,7 @@ def main():
         compared(program, store, folder, rows)
         versions(program, folder)
         periods(program, folder)
+        locks(program, folder)
     return 1 if over else 0
 
 

@@ -51,6 +51,16 @@ A: EXECUTE DBMS_WM.FreezeWorkspace('W')
 A: EXECUTE DBMS_WM.FreezeWorkspace('W', '1WRITER_SESSION')
 B: EXECUTE DBMS_WM.MergeWorkspace('W')
 A: EXECUTE DBMS_WM.UnfreezeWorkspace('W')
+A: EXECUTE DBMS_WM.LockRows('W', 'BUD', 'ID = 1', 'S')
+A: SELECT * FROM BUD_LOCK
+A: UPDATE BUD SET AMT = 3 WHERE ID = 1
+B: EXECUTE DBMS_WM.UnlockRows('W', 'BUD')
+A: EXECUTE DBMS_WM.UnlockRows('W', 'BUD')
+B: EXECUTE DBMS_WM.SetLockingON('WE')
+B: UPDATE BUD SET NOTE = 'locked' WHERE ID = 2
+B: EXECUTE DBMS_WM.SetLockingOFF
+B: EXECUTE DBMS_WM.LockRows('W', 'BUD', 'ID = 2', 'WE')
+A: EXECUTE DBMS_WM.LockRows('W', 'BUD', 'AMT = 1', 'WE')
 A: EXECUTE DBMS_WM.CreateWorkspace('U')
 B: EXECUTE DBMS_WM.GotoWorkspace('U')
 B: DELETE FROM BUD WHERE ID = 2
@@ -92,10 +102,14 @@ A: UPDATE BUD SET AMT = 13 WHERE ID = 1
 B: EXECUTE DBMS_WM.ResolveConflicts('W', 'BUD', 'ID = 2', 'BASE')
 B: EXECUTE DBMS_WM.ResolveConflicts('W', 'BUD', 'AMT = 10', 'BASE')
 B: EXECUTE DBMS_WM.ResolveConflicts('W', 'EMP', NULL, 'CHILD')
+A: EXECUTE DBMS_WM.LockRows('W', 'BUD', 'ID = 1', 'WE')
+B: EXECUTE DBMS_WM.CommitResolve('W')
+A: EXECUTE DBMS_WM.UnlockRows('W', 'BUD')
 B: EXECUTE DBMS_WM.CommitResolve('W')
 B: SELECT * FROM BUD_CONF
 A: EXECUTE DBMS_WM.RollbackToSP('LIVE', 'ICP-4')
 A: EXECUTE DBMS_WM.CreateSavepoint('W', 'R')
+A: EXECUTE DBMS_WM.LockRows('W', 'BUD', 'ID = 1', 'VE')
 B: EXECUTE DBMS_WM.BeginResolve('W')
 B: EXECUTE DBMS_WM.ResolveConflicts('W', 'BUD', '', 'CHILD')
 B: EXECUTE DBMS_WM.CommitResolve('W')
@@ -105,6 +119,9 @@ B: EXECUTE DBMS_WM.BeginResolve('W')
 B: EXECUTE DBMS_WM.ResolveConflicts('W', 'BUD', 'ID = 1', 'CHILD')
 B: EXECUTE DBMS_WM.CommitResolve('W')
 AT TIMESTAMP '2024-06-02 17:30:00'
+B: EXECUTE DBMS_WM.LockRows('LIVE', 'BUD', 'ID = 1', 'WE')
+A: EXECUTE DBMS_WM.MergeWorkspace('W', TRUE)
+B: EXECUTE DBMS_WM.UnlockRows('LIVE', 'BUD')
 A: EXECUTE DBMS_WM.MergeWorkspace('W', TRUE)
 B: UPDATE BUD SET AMT = 1 WHERE ID = 1
 A: DELETE FROM BUD WHERE ID = 1
@@ -112,6 +129,7 @@ B: EXECUTE DBMS_WM.BeginResolve('W')
 B: EXECUTE DBMS_WM.ResolveConflicts('W', 'BUD', '', 'PARENT')
 B: EXECUTE DBMS_WM.SetConflictWorkspace('U')
 A: EXECUTE DBMS_WM.FreezeWorkspace('W', '1WRITER', 'ANN')
+A: EXECUTE DBMS_WM.LockRows('LIVE', 'EMP')
 A: SELECT NOPE FROM BUD
 A: MERGE
 DISCONNECT B
@@ -125,6 +143,8 @@ Z: EXECUTE DBMS_WM.SetValidTime(DATE '0001-01-01')
 Z: SELECT * FROM BUD
 Z: SELECT * FROM EMP
 Z: SELECT * FROM BUD_HIST
+Z: SELECT * FROM BUD_LOCK
+Z: SELECT * FROM EMP_LOCK
 Z: EXECUTE DBMS_WM.GotoSavepoint('ICP-4')
 Z: SELECT * FROM BUD
 Z: EXECUTE DBMS_WM.GotoWorkspace('W')

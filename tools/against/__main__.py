@@ -9,7 +9,8 @@ difference says that one of the two is wrong.
     --lines N     about how many lines each (60) --show      print each script with the answers that the reference gives
     --shrink      drop the lines that a difference does not need
 
-A script has a store file and a limit of its own, and is played in one run or in two.
+A script has a store file and a limit of its own, and is played in one run or in two. Behind each run the counters in the
+file are compared too: so it is seen which lines changed the store, and how much work they counted.
 """
 import argparse
 import shlex
@@ -24,27 +25,39 @@ sys.path.insert(1, str(Path(__file__).resolve().parents[1]))
 from machine import SECONDS, folder_in_memory
 from reference import Reference, ended
 from scripts import Writer
+from storefile.pages import Pages
+from storefile.records import Counters, records_of
 from values import TIMESTAMP_FORMS, instant
 
 
 def expected(limit, runs):
-    """The answers of the reference, by run and line."""
+    """The answers of the reference, by run and line; behind each run what is told of the counters."""
     reference, found = Reference(limit), []
     for now, lines in runs:
         reference.begin(instant(now.encode(), TIMESTAMP_FORMS))
-        found.append([reference.answer(ended(line)) for line in lines])
+        found.append([*(reference.answer(ended(line)) for line in lines), told(*reference.counters())])
     return found
 
 
+def told(stamp, moment, limit, work):
+    return b"counters: next stamp %d, last moment %d, limit %d, work %d\n" % (stamp, moment, limit, work)
+
+
+def counters_in(store):
+    """The same of a store's file."""
+    [found] = [record for record in records_of(Pages(Path(store).read_bytes())) if isinstance(record, Counters)]
+    return told(found.next_stamp, found.last_moment, found.limit, found.work)
+
+
 def answered(program, limit, runs):
-    """What the program says, by run, with how it ended where that is not well."""
+    """What the program says, by run, with how it ended where that is not well, and else with what is told of the counters in the file."""
     with tempfile.TemporaryDirectory(dir=folder_in_memory()) as folder:
         store, found = str(Path(folder) / "s.store"), []
         subprocess.run([*program, store, "init", "--limit", str(limit)], check=True, capture_output=True, timeout=SECONDS)
         for now, lines in runs:
             done = subprocess.run([*program, store, "run", "--now", now], input=b"".join(line + b"\n" for line in lines),
                                   capture_output=True, timeout=SECONDS)
-            found.append(done.stdout + (b"status %d\n" % done.returncode if done.returncode else b""))
+            found.append(done.stdout + (b"status %d\n" % done.returncode if done.returncode else counters_in(store)))
         return found
 
 
@@ -56,7 +69,7 @@ def difference(program, limit, runs):
                 return run, line, answer, b"\n".join(said.split(b"\n")[:max(answer.count(b"\n"), 1)]) + b"\n"
             said = said[len(answer):]
         if said:
-            return run, len(wanted), b"", said
+            return run, len(wanted) - 1, b"", said
     return None
 
 
@@ -108,7 +121,7 @@ def main():
         writer = Writer(seed)
         runs = writer.script(asked.lines)
         for (now, lines), answers in zip(runs, expected(writer.limit, runs)):
-            tally.update(map(word_of, answers))
+            tally.update(map(word_of, answers[:-1]))
             if asked.show:
                 print(f"script {seed}, limit {writer.limit}, run --now {now}")
                 for line, answer in zip(lines, answers):

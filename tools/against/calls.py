@@ -3,6 +3,7 @@ from dataclasses import replace
 
 from lists import copied, over
 from refusals import first_of, refuse
+from scopes import Scope, names_of
 from state import Savepoint, Workspace
 from values import END, Instant, Period, printed
 
@@ -19,7 +20,8 @@ class Calls:
                 "MERGEWORKSPACE": self.merge_workspace, "SETCONFLICTWORKSPACE": self.set_conflict_workspace,
                 "BEGINRESOLVE": self.begin_resolve, "RESOLVECONFLICTS": self.resolve_conflicts, "COMMITRESOLVE": self.commit_resolve,
                 "ROLLBACKRESOLVE": self.rollback_resolve, "FREEZEWORKSPACE": self.freeze_workspace,
-                "UNFREEZEWORKSPACE": self.unfreeze_workspace}[tree.procedure](session, tree, given)
+                "UNFREEZEWORKSPACE": self.unfreeze_workspace, "SETLOCKINGON": self.set_locking_on, "SETLOCKINGOFF": self.set_locking_off,
+                "LOCKROWS": self.lock_rows, "UNLOCKROWS": self.unlock_rows}[tree.procedure](session, tree, given)
 
     def test_arguments(self, tree, needed, bad_marks=(), **kinds):
         """Refuses the first argument that does not fit; 'kinds' tells for each parameter its kind, or the values it takes. The marks of a
@@ -39,6 +41,22 @@ class Calls:
         for parameter in needed:
             if parameter not in tree.given:
                 refuse("WM-013 type", parameter)
+
+    def conditioned(self, tree, given, needed, **kinds):
+        """The table that a call names, and whether its condition is true of a key. Refuses what is wrong with them and with other arguments."""
+        name, table, scope, bad_marks = folded(given.get("TABLE_NAME")), None, None, []
+        if isinstance(name, bytes):
+            [table] = self.used([name.decode("utf-8", "surrogateescape")])
+            scope = Scope([(table.name, table)])
+            if bad := [(one.at, one.name) for one in names_of(tree.condition) if not self.is_key(table, one)]:
+                refuse("WM-012 no column", first_of(bad))
+            bad_marks = scope.bad_kinds(tree.condition)
+        self.test_arguments(tree, needed, bad_marks, WORKSPACE="text", TABLE_NAME="text", WHERE_CLAUSE="text", **kinds)
+        return table, lambda key: scope.truth(tree.condition, table.keyed(key, None)) is True
+
+    def is_key(self, table, name):
+        """Whether a name in the condition of a call is a key column of its table."""
+        return name.source in (None, table.name) and name.name == table.columns[table.key].name
 
     def enable_versioning(self, session, tree, given):
         name, table = folded(given.get("TABLE_NAME")), None
@@ -155,10 +173,12 @@ class Calls:
         if workspace.rebases > point.rebases:
             refuse("WM-046 rebased since", printed(name))
         self.test_resolve(given["WORKSPACE"])
-        if later or len(workspace.log) > point.log_length or workspace.settled != point.settled:
+        locks = [lock for lock in workspace.locks if lock.place < point.place]
+        if later or len(workspace.log) > point.log_length or workspace.settled != point.settled or locks != workspace.locks:
             workspace.own, workspace.log, workspace.settled = point.own, workspace.log[:point.log_length], point.settled
             workspace.content = over(workspace.base, workspace.own)
             workspace.savepoints = {other: it for other, it in workspace.savepoints.items() if other not in later}
+            workspace.locks = locks
             self.changed()
         return [], "OK"
 

@@ -41,19 +41,14 @@ ODD_LINES = [
     b"A; SELECT * FROM BUD", b"A: SELECT*FROM BUD", b"A: SELECT 1FROM BUD", b"A: SELECT 1 -- FROM BUD", b"A:DELETE BUD WHERE ID=>5",
     *(b"A: INSERT INTO BUD VALUES (1, '" + b"y" * size + b"')" for size in (1999, 16351, 16352, 16353))]
 LATER = [
-    "SELECT * FROM BUD_DIFF", "SELECT * FROM NOPE_LOCK X , BUD_CONF",
-    "SELECT 1 FROM X_LOCK , Y_DIFF",
-    "EXEC DBMS_WM . LockRows ( 'W' , 'BUD' , 'ID = 1' , 'E' )", "EXEC DBMS_WM . LockRows ( 'W' , 'BUD' , 'ID = ' , 'E' )",
-    "EXEC DBMS_WM . UnlockRows ( 'W' , 'BUD' , 'ID IN (9223372036854775808)' )", "EXEC DBMS_WM . UnlockRows ( 'W' , 'BUD' , '' )",
+    "SELECT * FROM BUD_DIFF", "SELECT * FROM NOPE_DIFF X , BUD_CONF", "SELECT 1 FROM X_LOCK , Y_DIFF",
     "EXEC DBMS_WM . SetDiffVersions ( 'A' , 'B' , 'C' , 'D' )",
     "EXEC DBMS_WM . SetDiffVersions ( 'A' , 'B' , 'C' , 'D' , 'E' )", "EXEC DBMS_WM . SetDiffVersions ( workspace1 => 'A' )",
-    "EXEC DBMS_WM . SetLockingOFF ( 'E' )", "EXEC DBMS_WM . SetLockingOFF ( )",
-    "EXEC DBMS_WM . GotoDate ( SYSDATE )",
-    "EXEC DBMS_WM . UnlockRows ( 'W' , 'BUD' , where_clause => 'ID = ''a'' OR NOT (AMT IS NULL)' )",
-    "EXEC DBMS_WM . UnlockRows ( 'W' , 'BUD' , 'ID = ''a' )", "EXEC DBMS_WM . LockRows ( 'W' , 'BUD' , 'ID = 1 ;' )"]
+    "EXEC DBMS_WM . GotoDate ( SYSDATE )", "EXEC DBMS_WM . GotoDate ( SYSDATE , 1 )"]
 # What the columns of views hold, and what they never hold.
 MARKS = {"WM_DELETED": ["'NO'", "'NO'", "'YES'", "'NE'", "'no'"], "WM_OPTYPE": ["'I'", "'U'", "'U'", "'D'", "'X'"],
          "WM_WORKSPACE": ["'LIVE'", "'W'", "'BASE'", "'V'", "'live'"], "WM_USERNAME": ["'ANN'", "'BEN'", "'KIM'", "'ann'"],
+         "WM_LOCKMODE": ["'E'", "'S'", "'WE'", "'VE'", "'e'"],
          "WM_CREATETIME": ["SYSDATE", "DATE '2020-01-01'", "DATE '2020-01-02'"], "WM_RETIRETIME": ["SYSDATE", "NULL", "DATE '2020-01-02'"]}
 # Lines on the views of a table, with @ in its place.
 CONFLICTS = [
@@ -71,6 +66,14 @@ HISTORIES = [
     "SELECT * FROM @_HIST WHERE WM_CREATETIME = 'x'", "SELECT WM_DELETED FROM @_HIST", "SELECT SUM ( WM_CREATETIME ) FROM @_HIST", "DELETE @_HIST WHERE WM_OPTYPE = 'I'",
     "INSERT INTO @_HIST VALUES ( 1 )", "UPDATE @_HIST SET WM_OPTYPE = 'I'", "SELECT h . WM_OPTYPE , c . WM_DELETED FROM @_HIST h , @_CONF c",
     "SELECT * FROM @_HIST WHERE WM_PERIOD ( SYSDATE , SYSDATE ) IS NULL"]
+LOCKS = [
+    "SELECT * FROM @_LOCK", "SELECT * FROM @_LOCK", "SELECT * FROM @_LOCK", "SELECT * FROM @_LOCK WHERE WM_LOCKMODE = 'E'",
+    "SELECT WM_USERNAME , COUNT ( * ) FROM @_LOCK GROUP BY WM_USERNAME", "SELECT WM_WORKSPACE , WM_LOCKMODE FROM @_LOCK ORDER BY WM_LOCKMODE DESC",
+    "SELECT DISTINCT WM_WORKSPACE , WM_USERNAME FROM @_LOCK", "SELECT COUNT ( * ) , MIN ( WM_LOCKMODE ) FROM @_LOCK WHERE WM_WORKSPACE <> 'LIVE'",
+    "SELECT l . WM_LOCKMODE , t . * FROM @_LOCK l , @ t", "SELECT l . WM_LOCKMODE , m . WM_USERNAME FROM @_LOCK l JOIN @_LOCK m ON l . WM_USERNAME < m . WM_USERNAME",
+    "SELECT WM_VALID FROM @_LOCK ORDER BY WM_VALID DESC", "SELECT * FROM @_LOCK WHERE WM_LOCKMODE = 1", "SELECT WM_DELETED FROM @_LOCK",
+    "SELECT AMT FROM @_LOCK", "SELECT SUM ( WM_LOCKMODE ) FROM @_LOCK", "DELETE @_LOCK", "INSERT INTO @_LOCK VALUES ( 1 )", "UPDATE @_LOCK SET WM_LOCKMODE = 'S'",
+    "SELECT * FROM @_LOCK , @_HIST", "SELECT * FROM @_LOCK , @_CONF", "SELECT * FROM @_LOCK WHERE WM_PERIOD ( SYSDATE , SYSDATE ) IS NULL"]
 # Lines on periods, with @ in the place of a table and $ in that of a period.
 PERIODS = [
     "SELECT WM_VALID FROM @", "SELECT 1 FROM @ WHERE WM_VALID IS NULL", "SELECT * FROM @ WHERE WM_VALID = WM_VALID", "SELECT WM_OVERLAPS FROM @",

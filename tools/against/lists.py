@@ -31,6 +31,17 @@ class Mark:
 
 
 @dataclass(frozen=True)
+class Lock:
+    """Over a period of a key a user holds what a mode says."""
+    table: str
+    key: object
+    period: Period
+    mode: bytes
+    user: str
+    place: int  # the last one of the workspace when it was set
+
+
+@dataclass(frozen=True)
 class Decision:
     """What becomes of a conflict over a period of a key, as of a position of the parent's log; the entries that are copied for it."""
     table: str

@@ -3,8 +3,7 @@ from dataclasses import replace
 
 from calls import folded
 from lists import Decision, Mark, conflicts, entries_of, joined, net, outside, over, within
-from refusals import first_of, refuse
-from scopes import Scope, names_of
+from refusals import refuse
 from values import printed
 
 
@@ -66,20 +65,22 @@ class Merges:
             self.test_removal(name)
         self.test_resolve(name)
         self.test_conflict(workspace)
-        parent = self.parent_of(workspace)
+        parent, brought = self.parent_of(workspace), net(workspace.own, self.tables)
+        self.test_locks(parent, session.user, cells_of(brought), workspace)
         if keeps:
             self.test_room(parent)
             self.keep_implicitly(parent, self.kept(parent))
         is_rebased = workspace.own or len(parent.log) > workspace.log_from
         if is_rebased:
             gained = self.gained(workspace, session)
-            parent.append(self.replayed(net(workspace.own, self.tables), session))
+            parent.append(self.replayed(brought, session))
             workspace.log, workspace.own = workspace.log + gained, []
             workspace.rebase(parent)
         if removes:
             self.drop(name)
-        if keeps or removes or is_rebased:
+        if keeps or removes or is_rebased or workspace.locks:
             self.changed()
+        workspace.locks = []
         return [], "OK"
 
     def positions(self, child):
@@ -114,36 +115,26 @@ class Merges:
         return [], "OK"
 
     def resolve_conflicts(self, session, tree, given):
-        name, table, scope, bad_marks = folded(given.get("TABLE_NAME")), None, None, []
-        if isinstance(name, bytes):
-            [table] = self.used([name.decode("utf-8", "surrogateescape")])
-            scope = Scope([(table.name, table)])
-            if bad := [(one.at, one.name) for one in names_of(tree.condition) if not self.is_key(table, one)]:
-                refuse("WM-012 no column", first_of(bad))
-            bad_marks = scope.bad_kinds(tree.condition)
-        self.test_arguments(tree, ["WORKSPACE", "TABLE_NAME", "WHERE_CLAUSE", "KEEP"], bad_marks, WORKSPACE="text", TABLE_NAME="text",
-                            WHERE_CLAUSE="text", KEEP=[b"PARENT", b"CHILD", b"BASE"])
+        table, meets = self.conditioned(tree, given, ["WORKSPACE", "TABLE_NAME", "WHERE_CLAUSE", "KEEP"], KEEP=[b"PARENT", b"CHILD", b"BASE"])
         workspace = self.resolved(session, given["WORKSPACE"])
         parent, keep, count = self.parent_of(workspace), folded(given["KEEP"]), 0
         content = {b"PARENT": parent.content, b"CHILD": {}, b"BASE": workspace.base}[keep]
         for key, period, (base, _, _) in list(self.conflicts(workspace, table.name)):
-            if scope.truth(tree.condition, table.keyed(key, None)) is True and (keep != b"BASE" or base is not None):
+            if meets(key) and (keep != b"BASE" or base is not None):
                 copies = joined(within(entries_of(content, table.name, key), period))
                 made = Decision(table.name, key, period, copies, len(parent.log))
                 session.decisions = [part for old in session.decisions for part in old.beside(made)] + [made]
                 count += 1
         return [], f"DONE {count}"
 
-    def is_key(self, table, name):
-        """Whether a name in the condition of a call is a key column of its table."""
-        return name.source in (None, table.name) and name.name == table.columns[table.key].name
-
     def commit_resolve(self, session, tree, given):
         self.test_arguments(tree, ["WORKSPACE"], WORKSPACE="text")
         workspace, places = self.resolved(session, given["WORKSPACE"]), list(self.tables)
         decisions = sorted(session.decisions, key=lambda one: (places.index(one.table), one.key, one.period))
+        copies = [entry for one in decisions for entry in one.copies]
+        self.test_locks(workspace, session.user, cells_of(copies))
         if decisions:
-            workspace.append(self.replayed([entry for one in decisions for entry in one.copies], session))
+            workspace.append(self.replayed(copies, session))
             workspace.settled = over(workspace.settled, [Mark(one.table, one.key, one.period, one.position) for one in decisions])
             self.changed()
         session.resolve, session.decisions = None, []
@@ -154,3 +145,7 @@ class Merges:
         self.resolved(session, given["WORKSPACE"])
         session.resolve, session.decisions = None, []
         return [], "OK"
+
+
+def cells_of(entries):
+    return [(entry.table, entry.key, entry.period) for entry in entries]

@@ -2,6 +2,7 @@
 from calls import Calls
 from freezes import Freezes
 from lists import Entry, entries_of, rows_of
+from locks import Locks
 from merges import Merges
 from parser import BadToken, Parser, VIEWS
 from queries import Queries
@@ -12,13 +13,14 @@ from trees import At, Call, Connect, Create, Delete, Disconnect, Insert, Select,
 from values import ALWAYS, Instant, printed, weight
 
 
-class Reference(Queries, Calls, Freezes, Merges):
+class Reference(Queries, Calls, Freezes, Locks, Merges):
     """A store, its sessions, and what each line answers."""
 
     MOST_ROWS, MOST_SESSIONS, MOST_TABLES, MOST_WORKSPACES, MOST_SAVEPOINTS = 100_000, 256, 256, 1024, 4096
+    LINE_WORK = 4096
 
     def __init__(self, limit):
-        self.limit, self.stamps, self.last_moment, self.moment = limit, 0, Instant(0), Instant(0)
+        self.limit, self.stamps, self.work, self.last_moment, self.moment = limit, 0, 0, Instant(0), Instant(0)
         self.tables, self.workspaces, self.sessions = {}, {b"LIVE": Workspace(0, None, 0, 0, {}, {}, {})}, {}
 
     def begin(self, now):
@@ -73,8 +75,13 @@ class Reference(Queries, Calls, Freezes, Merges):
         return {Create: self.create, Insert: self.insert, Update: self.update, Delete: self.delete,
                 Select: self.select}[type(statement)](session, statement)
 
-    def changed(self):
-        self.last_moment = self.moment
+    def changed(self, locks=0):
+        """A line changes a durable part, and makes so many locks."""
+        self.last_moment, self.work = self.moment, self.work + self.LINE_WORK + locks
+
+    def counters(self):
+        """What a store keeps of them: the next stamp, the last moment, the limit and the work."""
+        return self.stamps + 1, self.last_moment, self.limit, self.work
 
     def connect(self, tree):
         if tree.session in self.sessions:
@@ -94,14 +101,17 @@ class Reference(Queries, Calls, Freezes, Merges):
 
     def write(self, session, table, changes):
         """Entries of changes, each a key, a period, a row or None, and a kind; each has the next stamp."""
+        workspace, cells = self.workspaces[session.workspace], [(table.name, key, period) for key, period, _, _ in changes]
+        self.test_locks(workspace, session.user, cells)
         if self.stamps + len(changes) > self.limit:
             refuse("WM-070 change limit", self.limit)
         entries = [Entry(table.name, key, period, row, self.stamps + count, kind, self.moment, session.user)
                    for count, (key, period, row, kind) in enumerate(changes, 1)]
-        self.workspaces[session.workspace].append(entries)
+        workspace.append(entries)
         self.stamps += len(changes)
+        locks = self.lock(workspace, session.locking, session.user, cells) if session.locking else 0
         if changes:
-            self.changed()
+            self.changed(locks)
 
     def used(self, names):
         """The tables of these names, which are all there and version-enabled."""
@@ -131,9 +141,9 @@ class Reference(Queries, Calls, Freezes, Merges):
     def test_views(self, session, sources):
         views = [source for source in sources if isinstance(source, View)]
         for view in views:
-            if view.is_history and not view.table.has_history:
+            if view.kind == "HIST" and not view.table.has_history:
                 refuse("WM-018 no history", view.table.name)
-        if any(not view.is_history for view in views):
+        if any(view.kind == "CONF" for view in views):
             self.workspace(self.conflict_workspace(session))
 
     # CREATE TABLE

@@ -33,17 +33,20 @@ def added(names):
 
 @dataclass
 class View:
-    """The conflicts of a table, or its history."""
+    """The conflicts of a table, its history, or its locks."""
     name: str
     table: Table
 
     @property
-    def is_history(self):
-        return self.name.endswith("_HIST")
+    def kind(self):
+        return self.name[-4:]
 
     def shown_columns(self):
-        if self.is_history:
+        if self.kind == "HIST":
             return self.table.shown_columns() + added("WM_WORKSPACE WM_USERNAME WM_OPTYPE WM_CREATETIME WM_RETIRETIME")
+        if self.kind == "LOCK":
+            keys = [column for place, column in enumerate(self.table.columns) if place == self.table.key]
+            return [*keys, *[WM_VALID] * self.table.has_periods, *added("WM_WORKSPACE WM_LOCKMODE WM_USERNAME")]
         return added("WM_WORKSPACE") + self.table.shown_columns() + added("WM_DELETED")
 
 

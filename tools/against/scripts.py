@@ -18,6 +18,7 @@ class Writer(Words, Statements, Spoken):
         self.reference = Reference(self.limit)
         self.noise = 0.0  # how likely each choice within the line is a bad one
         self.branching = self.random.choice([1, 1, 1, 3])  # how often lines on workspaces and savepoints come
+        self.locking = self.random.choice([0.5, 0.5, 1, 4])  # how often rows are locked
         self.freezing = self.random.choice([0.5, 0.5, 1, 4])  # how often a workspace is frozen
 
     def chance(self, likely):
@@ -77,6 +78,8 @@ class Writer(Words, Statements, Spoken):
             yield from self.levels()
         if self.chance(0.5):
             yield from self.one([self.torn, self.decided, self.decided])()
+        if self.chance(0.25 * self.locking):
+            yield from self.one([self.locked, self.held, self.barred])()
         if self.chance(0.15 * self.freezing):
             yield from self.frozen()
         if self.chance(0.4):
@@ -168,6 +171,65 @@ class Writer(Words, Statements, Spoken):
                 self.resolve: 16, self.clash: 8, self.rollback: 4, self.create_savepoint: 3, self.merge: 2, self.refresh: 1, self.remove: 0.3,
                 self.view: 2, self.disconnect: 0.5, self.connect: 0.3, self.set_valid_time: 1})().split(" "))
 
+    def locked(self):
+        """Rows of a workspace or of the one above are locked; then others change them, lock them and merge them."""
+        name, lines = self.child_name()
+        yield from lines
+        if name not in self.reference.workspaces:
+            return
+        yield from self.clashing(name)
+        yield from [b"CONNECT C BEN"] if self.chance(0.5) else []
+        for _ in range(self.one([6, 12, 24])):
+            is_locked = any(its.locks for its in self.reference.workspaces.values())
+            yield self.spaced(self.weighted({
+                self.lock_rows: 4 if is_locked else 10, self.unlock_rows: 1.5 if is_locked else 0.2, self.set_locking: 2, self.insert: 2,
+                self.update: 3, self.move: 2, self.delete: 1, self.clash: 5, self.merge: 4, self.resolve: 4, self.refresh: 1, self.rollback: 1.5,
+                self.create_savepoint: 1, self.goto_workspace: 2, self.set_valid_time: 2, self.remove: 0.5, self.disconnect: 0.3,
+                self.connect: 0.3, self.view: 1})().split(" "))
+
+    def held(self):
+        """Rows of a workspace are locked between savepoints; then it goes back to some of these."""
+        name, lines = self.child_name()
+        yield from lines
+        if name not in self.reference.workspaces:
+            return
+        name = self.one([name, name, self.above(name)])
+        for point in self.random.sample(SAVEPOINTS, self.one([2, 3])):
+            for _ in range(self.one([1, 2])):
+                yield self.spaced(self.lock_rows(name).split(" "))
+            yield b"A: EXEC DBMS_WM.CreateSavepoint(%s, '%s')" % (printed(name), point.encode())
+        for _ in range(self.one([3, 6])):
+            yield self.spaced(self.weighted({lambda: self.lock_rows(name): 3, self.rollback: 4, self.unlock_rows: 0.5, self.update: 0.5,
+                                             self.create_savepoint: 0.5, self.remove: 0.3})().split(" "))
+
+    def barred(self):
+        """What a session decides about a workspace, and what it merges, lies under locks that another has set there, above or beside it."""
+        name, lines = self.child_name()
+        yield from lines
+        if name not in self.reference.workspaces:
+            return
+        yield from self.clashing(name)
+        for _ in range(6):
+            if not self.is_torn(name):
+                yield self.spaced(self.clash().split(" "))
+        if name not in self.reference.workspaces or len(self.reference.sessions) < 2:
+            return
+        quoted, above = printed(name), self.above(name)
+        mine, other = self.random.sample(list(self.reference.sessions), 2)
+        yield b"%s: EXEC DBMS_WM.BeginResolve(%s)" % (mine.encode(), quoted)
+        for _ in range(self.one([1, 2])):
+            yield self.spaced(self.decide(mine, quoted.decode()).split(" "))
+        if self.reference.sessions[mine].decisions and self.chance(0.7):
+            table, mode = self.one(self.reference.sessions[mine].decisions).table, self.one(["E", "WE", "WE", "VE"])
+            yield b"%s: EXEC DBMS_WM.LockRows(%s, '%s', NULL, '%s')" % (other.encode(), quoted, table.encode(), mode.encode())
+        yield self.spaced(self.lock_rows(self.one([name, name, above]), other).split(" "))
+        commit, merge = (b"%s: EXEC DBMS_WM.%s(%s)" % (mine.encode(), call, quoted) for call in (b"CommitResolve", b"MergeWorkspace"))
+        yield from [commit, merge]
+        for _ in range(self.one([1, 2])):
+            yield self.spaced(self.unlock_rows().split(" "))
+        yield from [commit, self.spaced(self.lock_rows(self.one([name, above, None]), other).split(" ")), merge]
+        yield from [self.spaced(self.lock_rows(name).split(" ")), merge]
+
     def frozen(self):
         """A workspace or the one above is frozen; then what that bars is tried, and what it does not."""
         name, lines = self.child_name()
@@ -188,7 +250,7 @@ class Writer(Words, Statements, Spoken):
     def closing(self):
         """Lines that list what stands in each workspace, and some of what stands at each savepoint."""
         ready = [name for name, table in self.reference.tables.items() if table.is_versioned]
-        yield from ["CONNECT Z ZED", "Z: EXEC DBMS_WM.SetValidTime(DATE '0001-01-01')"]
+        yield from ["CONNECT Z ZED", "Z: EXEC DBMS_WM.SetValidTime(DATE '0001-01-01')", *(f"Z: SELECT * FROM {table}_LOCK" for table in ready)]
         for workspace, its in self.reference.workspaces.items():
             yield f"Z: EXEC DBMS_WM.UnfreezeWorkspace({printed(workspace).decode()})"
             yield f"Z: EXEC DBMS_WM.GotoWorkspace({printed(workspace).decode()})"
@@ -210,7 +272,8 @@ class Writer(Words, Statements, Spoken):
             self.goto_savepoint: 7 * self.branching, self.rollback: 7 * self.branching, self.remove: 4 * self.branching,
             self.merge: 8 * self.branching, self.refresh: 5 * self.branching, self.clash: 9 * self.branching,
             self.resolve: 8 * self.branching, self.view: 12, self.set_conflict: 2 + 2 * self.branching, self.freeze: 2 * self.freezing,
-            self.unfreeze: 0.3 + 8 * count, self.connect: 3, self.disconnect: 1, self.not_built: 1, self.set_valid_time: 10, self.at: 4,
+            self.unfreeze: 0.3 + 8 * count, self.lock_rows: 4 * self.locking, self.unlock_rows: 2 * self.locking,
+            self.set_locking: 1.5 * self.locking, self.connect: 3, self.disconnect: 1, self.not_built: 1, self.set_valid_time: 10, self.at: 4,
             self.on_periods: 4, self.deep: 1, self.wide: 0.3, self.long: 0.3})().split(" ")
         if self.chance(0.12):
             words = self.damaged(words)

@@ -97,7 +97,9 @@ class Spoken:
 
     def undoes(self, workspace, name):
         its = self.reference.workspaces[workspace]
-        return self.later(workspace, name) or len(its.log) > its.savepoints[name].log_length or its.settled != its.savepoints[name].settled
+        point = its.savepoints[name]
+        return (self.later(workspace, name) or len(its.log) > point.log_length or its.settled != point.settled
+                or any(lock.place >= point.place for lock in its.locks))
 
     def likely(self, workspace, name):
         """How likely a rollback is tried: most likely one that neither a session, a child nor a rebase bars, and least one that a child bars."""
@@ -202,6 +204,48 @@ class Spoken:
         name = printed(self.one(frozen)).decode() if frozen and not self.is_bad(0.15) else self.workspace_name()
         return self.call("UnfreezeWorkspace", [self.named("workspace", name)], ["workspace => 'LIVE'", "5", "'READ_ONLY'", "'W' , 'V'"])
 
+    def set_locking(self):
+        """Of a session, most likely one that stands where it may change rows."""
+        if self.chance(0.3):
+            return self.call("SetLockingOFF", [], ["'E'", "lockmode => 'E'", "NULL"])
+        mode = self.one(["'E'", "'S'", "'WE'", "'VE'", "'VE'", "'e'", "'We'"])
+        if self.is_bad(0.05):
+            mode = self.one(["'X'", "NULL", "''", "5", "' E'", "'ES'", "TRUE"])
+        return self.call("SetLockingON", [self.named("lockmode", mode)], ["'S'", "lockmode => 'E'", "5"])
+
+    def lock_rows(self, workspace=None, session=None):
+        """Rows of some keys of a table, most likely of one that has rows in the workspace."""
+        workspace = workspace or self.one(list(self.reference.workspaces))
+        held = self.reference.workspaces[workspace].content
+        name = self.one(list(held)) if held and not self.is_bad(0.05) else self.table_name()
+        arguments = [printed(workspace).decode() if not self.is_bad(0.04) else self.workspace_name(), f"'{self.one([name, name, name.lower()])}'",
+                     self.quoted_clause(name, list(held.get(name, []))), self.one(["'E'", "'S'", "'S'", "'WE'", "'WE'", "'VE'", "'ve'", "NULL"])]
+        if self.is_bad(0.04):
+            arguments[3] = self.one(["'X'", "5", "TRUE", "' E'", "'NONE'"])
+        arguments = self.by_name(["workspace", "table_name", "where_clause", "lock_mode"], arguments[:self.weighted({4: 9, 3: 1, 2: 1})])
+        bad = ["5", "NULL", "''", "'E'", "'ID = 1'", "lock_mode => 'S'", "where_clause => NULL", "'BUD_LOCK'"]
+        return self.call("LockRows", arguments, bad, session)
+
+    def unlock_rows(self):
+        """Rows of some keys of a table, most likely of one on which there are locks."""
+        locks = [(workspace, lock) for workspace, its in self.reference.workspaces.items() for lock in its.locks]
+        workspace, lock = self.one(locks) if locks else (b"LIVE", None)
+        name = lock.table if lock and not self.is_bad(0.05) else self.table_name()
+        keys = [other.key for _, other in locks if other.table == name]
+        arguments = [printed(workspace).decode() if not self.is_bad(0.04) else self.workspace_name(), f"'{self.one([name, name, name.lower()])}'",
+                     self.quoted_clause(name, keys)][:self.weighted({3: 5, 2: 1})]
+        users = [session for session, its in self.reference.sessions.items() if lock and its.user == lock.user]
+        return self.call("UnlockRows", self.by_name(["workspace", "table_name", "where_clause"], arguments),
+                         ["5", "NULL", "'E'", "lock_mode => 'S'", "where_clause => NULL"], self.one(users) if users and self.chance(0.8) else None)
+
+    def by_name(self, parameters, arguments):
+        """Now and then the arguments by their names, in some order, and one may be missing."""
+        if not self.chance(0.08):
+            return arguments
+        named = [f"{parameter} => {argument}" for parameter, argument in zip(parameters, arguments)]
+        self.random.shuffle(named)
+        return named if self.chance(0.7) else named[1:]
+
     def set_conflict(self):
         return self.call("SetConflictWorkspace", [self.named("workspace", self.workspace_name())], ["workspace => 'LIVE'", "5", "'W' , 'V'"])
 
@@ -251,9 +295,7 @@ class Spoken:
             for key, _, _ in self.reference.conflicts(resolved, table):
                 keys.setdefault(table, []).append(key)
         name = self.one(keys) if keys and not self.is_bad(0.05) else self.table_name()
-        clause = self.clause(name, keys.get(name, []))
-        if clause not in ("NULL", "''", "5"):
-            clause = "'" + clause.replace("'", "''") + "'"
+        clause = self.quoted_clause(name, keys.get(name, []))
         keep = self.one(["'PARENT'", "'PARENT'", "'CHILD'", "'CHILD'", "'BASE'", "'BASE'", "'parent'", "'Child'", "'base'"])
         if self.is_bad():
             keep = self.one(["'LIVE'", "NULL", "''", "5", "TRUE", "'PARENTS'", "' CHILD'"])
@@ -265,6 +307,10 @@ class Spoken:
             arguments = named if self.chance(0.7) else named[1:]
         bad = ["5", "NULL", "''", "'ID = 1'", "keep => 'CHILD'", "where_clause => NULL", "table_name => 'BUD'", "'BUD_CONF'"]
         return self.call("ResolveConflicts", arguments, bad, session)
+
+    def quoted_clause(self, name, keys):
+        clause = self.clause(name, keys)
+        return clause if clause in ("NULL", "''", "5") else "'" + clause.replace("'", "''") + "'"
 
     def clause(self, name, keys):
         """A condition over the key of a table, most likely one that is true of some of the keys."""

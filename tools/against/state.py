@@ -14,6 +14,7 @@ class Session:
     conflict: bytes | None = None  # of SetConflictWorkspace
     resolve: bytes | None = None  # the workspace whose resolve it has open
     decisions: list = field(default_factory=list)  # of that resolve
+    locking: bytes | None = None  # the mode in which it locks what it changes
     freezes: set = field(default_factory=set)  # the workspaces that it froze for itself alone
 
 
@@ -43,6 +44,7 @@ class Workspace:
     place: int = 0  # the last one given; none is given again
     implicit: int = 0  # how many implicit savepoints were ever made
     settled: dict = field(default_factory=dict)  # the marks of what resolves decided
+    locks: list = field(default_factory=list)  # in order of making
     freeze: bytes | None = None  # its mode, unless a session froze it for itself
     writer: str = ""  # for whom it is frozen in 1WRITER
 

@@ -1,6 +1,6 @@
 """Random lines that are no calls."""
 from choices import (
-    COLUMNS, CONFLICTS, ENDS, HISTORIES, KINDS, LABELS, LATER, LONG_NAME, LONGEST_NAME, PERIODS, TABLES,
+    COLUMNS, CONFLICTS, ENDS, HISTORIES, KINDS, LABELS, LATER, LOCKS, LONG_NAME, LONGEST_NAME, PERIODS, TABLES,
 )
 from lists import rows_by_key
 from trees import Column
@@ -202,7 +202,10 @@ class Statements:
         tables = {name: 1 + 3 * (its.has_history and its.is_versioned) for name, its in self.reference.tables.items()}
         name = self.weighted(tables) if tables and not self.is_bad(0.02) else self.one(["NOPE", "BUD"])
         table = self.reference.tables.get(name)
-        lines = self.one([CONFLICTS, HISTORIES]) if table is not None and table.has_history or self.chance(0.05) else CONFLICTS
+        has_history = table is not None and table.has_history or self.chance(0.05)
+        is_locked = any(lock.table == name for its in self.reference.workspaces.values() for lock in its.locks)
+        lines = self.weighted({"CONFLICTS": 3, "HISTORIES": 3 * has_history, "LOCKS": 4 if is_locked else 0.5})
+        lines = {"CONFLICTS": CONFLICTS, "HISTORIES": HISTORIES, "LOCKS": LOCKS}[lines]
         words = self.one(lines) if self.is_bad() or self.chance(0.3) else self.one(lines[:10])
         likely = {session: 1 + 5 * bool(self.reference.workspaces[its.workspace].own) for session, its in self.reference.sessions.items()}
         return self.said(words.replace("@", name), self.weighted(likely) if likely else None)

@@ -24,7 +24,7 @@ class Words:
             return name
         table = self.reference.tables.get(name)
         has_history = table is not None and table.has_history
-        return name + self.weighted({"_CONF": 4, "_HIST": 6 if has_history else 0.5, "_LOCK": self.noise, "_CONF_HIST": self.noise})
+        return name + self.weighted({"_CONF": 4, "_HIST": 6 if has_history else 0.5, "_LOCK": 3, "_DIFF": self.noise, "_CONF_HIST": self.noise})
 
     def columns_of(self, name):
         table = self.reference.tables.get(name)
@@ -156,8 +156,12 @@ class Words:
         return table is not None and table.key is not None and table.columns[table.key] is column
 
     def new_key(self, name, kind):
-        """A constant that is most likely no key of a row that is there."""
+        """A constant that is most likely no key of a row that is there, or now and then one that is locked."""
         table = self.table_of(name)
+        locked = [lock.key for workspace in self.reference.workspaces.values() for lock in workspace.locks if lock.table == table.name]
+        if locked and self.chance(0.2):
+            key = self.one(locked)
+            return self.time(key) if kind == "time" else printed(key).decode()
         used = {key for workspace in self.reference.workspaces.values() for key in rows_by_key(workspace.content, table.name)}
         most = 13
         if table.has_periods or table.name != name:
@@ -185,5 +189,6 @@ class Words:
     def rows_in(self, name):
         source = self.reference.source(name)
         if isinstance(source, View):
-            return max(sum(entry.table == source.table.name for entry in workspace.log) for workspace in self.reference.workspaces.values())
+            lists = [one for its in self.reference.workspaces.values() for one in (its.log, its.locks)]
+            return sum(sum(one.table == source.table.name for one in entries) for entries in lists)
         return max(sum(map(len, rows_by_key(workspace.content, name).values())) for workspace in self.reference.workspaces.values())

@@ -8,6 +8,7 @@ MAKES_COLUMNS = re.compile(rb"[^:]*:\s*(CREATE\s+TABLE|EXEC(UTE)?\s+DBMS_WM\s*\.
 COUNTERS, TABLE = 1, 2
 NUMBER, TEXT = b"\1", b"\2"
 OF_HISTORY = ["WM_WORKSPACE", "WM_USERNAME", "WM_OPTYPE", "WM_CREATETIME", "WM_RETIRETIME"]
+OF_LOCKS = ["WM_WORKSPACE", "WM_LOCKMODE", "WM_USERNAME"]
 
 
 def spelled(key):
@@ -40,9 +41,10 @@ class Catalog:
         if self.known is None:
             self.known = {}
             for table in self.records(TABLE):
-                columns = [column.name for column in table.columns] + ["WM_VALID"] * table.is_valid
+                keys, period = [table.columns[place].name for place in table.key_columns], ["WM_VALID"] * table.is_valid
+                columns = [column.name for column in table.columns] + period
                 self.known |= {table.name: columns, f"{table.name}_CONF": ["WM_WORKSPACE", *columns, "WM_DELETED"],
-                               f"{table.name}_HIST": columns + OF_HISTORY}
+                               f"{table.name}_HIST": columns + OF_HISTORY, f"{table.name}_LOCK": keys + period + OF_LOCKS}
         return self.known
 
     def may_have_key(self, name, column, key):

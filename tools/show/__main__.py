@@ -1,9 +1,10 @@
 #!/usr/bin/env python3
 """python3 tools/show STORE [--log N] [--html FILE [--keys N]]
 
-Shows what a store holds: its tables, the tree of its workspaces and savepoints, how they are frozen, how many changes
-it still takes, who changed what and when in tables with history (what a merge brings, under who merged), and what a
-merge would find in conflict. The file is read as docs/FORMAT.md says, and never written; no run is needed.
+Shows what a store holds: its tables, the tree of its workspaces and savepoints, what is frozen and what is locked,
+how many changes it still takes, who changed what and when in tables with history (what a merge brings, under who
+merged), and what a merge would find in conflict. The file is read as docs/FORMAT.md says, and never written; no run is
+needed.
 
     --log N      so many of the last changes (20)
     --html FILE  writes a page with pictures instead, for a browser; over what is there, unless that is a store

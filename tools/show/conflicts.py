@@ -43,7 +43,7 @@ def settled_card(store):
                     for space, text in told[:MOST])
     more = f"<p>The first {MOST} of {len(told)} are here.</p>" if len(told) > MOST else ""
     return ['<div class="card"><h3>Settled</h3><p>It was in conflict, and is settled until the parent changes it again.</p>'
-            f'<ul class="settled">{items}</ul>{more}</div>']
+            f'<ul class="listed">{items}</ul>{more}</div>']
 
 
 def conflicts_section(store, found):

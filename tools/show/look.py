@@ -44,7 +44,7 @@ td.changed, .changed { background: var(--mark); box-shadow: inset 0 0 0 1px #e9c
 .side { border: 1px solid var(--line); border-radius: 10px; padding: 10px 12px; }
 .side dl { display: grid; grid-template-columns: auto 1fr; gap: 3px 12px; margin: 8px 0 0; font-size: 14px; }
 .side dt { color: var(--soft); } .side dd { margin: 0; }
-.settled { margin: 0; padding: 0; list-style: none; display: grid; gap: 4px; font-size: 14px; }
+.listed { margin: 0; padding: 0; list-style: none; display: grid; gap: 4px; font-size: 14px; }
 .when { color: var(--soft); white-space: nowrap; font-variant-numeric: tabular-nums; }
 input { font: inherit; padding: 7px 12px; border: 1px solid var(--line); border-radius: 10px; background: var(--card); color: var(--ink);
   width: 100%; max-width: 360px; margin-bottom: 12px; }

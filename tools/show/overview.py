@@ -8,6 +8,7 @@ WORDS = {1: "inserted", 2: "updated", 3: "deleted"}
 TYPES = {1: "NUMBER", 2: "VARCHAR2({})", 3: "DATE"}
 FREEZES = ["", "NO_ACCESS", "READ_ONLY", "1WRITER", "WM_ONLY"]
 ONE_WRITER = 3
+LOCKS = ["", "E", "S", "WE", "VE"]
 
 
 def counted(number, word):
@@ -157,5 +158,18 @@ def settled(store):
     return ["", "What was in conflict and is settled, until the parent changes it again", *told] if told else []
 
 
+def locked_told(store, lock):
+    """What is locked, in which mode and by whom."""
+    table = store.tables[lock.cells.table]
+    period = f" {lock.cells.period}" if table.is_valid else ""
+    return f"{table.name} {printed(lock.cells.key)}{period}, {LOCKS[lock.mode]} by {lock.user}"
+
+
+def locked(store):
+    """The locks of all workspaces, where there is any."""
+    told = [f"  {store.spaces[lock.space].name}: {locked_told(store, lock)}" for lock in store.locks]
+    return ["", "What is locked", *told] if told else []
+
+
 def overview(path, store, most):
-    return [*head(path, store), *tables(store), *workspaces(store), *log(store, most), *conflicts(store), *settled(store)]
+    return [*head(path, store), *tables(store), *workspaces(store), *locked(store), *log(store, most), *conflicts(store), *settled(store)]

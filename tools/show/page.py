@@ -7,11 +7,11 @@ from conflicts import conflicts_section
 from graph import Graph
 from keys import keys_section
 from look import shell
-from overview import TYPES, WORDS, changed_keys, counted, in_time, last_change, state_of
+from overview import TYPES, WORDS, changed_keys, counted, in_time, last_change, locked_told, state_of
 from storefile.store import LIVE
 from storefile.values import printed
 
-MOST_ENTRIES = 500
+MOST_ENTRIES, MOST_LOCKS = 500, 200
 SECTIONS = {"workspaces": "Workspaces", "tables": "Tables", "conflicts": "Conflicts", "keys": "Rows", "log": "Who changed what"}
 
 
@@ -83,7 +83,14 @@ def workspaces_section(store):
     told = ("A lane for each workspace, from where it was born. A number in a lane is how many changes were made there or "
             "were brought there by a refresh or a merge; a diamond is a savepoint, and a ring is one that was made for a workspace or "
             "a merge. What is newest stands to the right, and above it how the workspace is frozen, if it is.")
-    return section("workspaces", told, card(Graph(store).picture()))
+    return section("workspaces", told, card(Graph(store).picture()), *locked_card(store))
+
+
+def locked_card(store):
+    """What is locked, in a list, where anything is."""
+    items = "".join(f"<li>{space_mark(store.spaces[lock.space])} {escape(locked_told(store, lock))}</li>" for lock in store.locks[:MOST_LOCKS])
+    more = f"<p>The first {MOST_LOCKS} of {len(store.locks)} are here.</p>" if len(store.locks) > MOST_LOCKS else ""
+    return [card(f'<h3>Locked</h3><ul class="listed">{items}</ul>{more}')] if items else []
 
 
 def value_mark(value):

@@ -4,7 +4,7 @@ from pathlib import Path
 from typing import NamedTuple
 
 from .pages import Damaged, Pages
-from .records import Counters, Hist, Mark, Piece, Row, Savepoint, Space, Table, Touch, Turn, Version, records_of
+from .records import Counters, Hist, Lock, Mark, Piece, Row, Savepoint, Space, Table, Touch, Turn, Version, records_of
 from .values import in_order
 
 LIVE, NO_VERSION = 0, 0
@@ -54,6 +54,7 @@ class Store:
         self.history = sorted(by_kind[Hist], key=lambda entry: (entry.space, entry.position))
         self.touches = sorted(by_kind[Touch], key=lambda touch: (touch.space, touch.place, touch.position))
         self.marks = sorted(by_kind[Mark], key=lambda mark: (mark.space, mark.place, mark.position))
+        self.locks = sorted(by_kind[Lock], key=lambda lock: (lock.cells.table, in_order(lock.cells.key), lock.cells.period.begin, lock.space, lock.making))
         self.turns = sorted(by_kind[Turn])
         self.pieces = defaultdict(list)
         for piece in by_kind[Piece]:
@@ -64,8 +65,8 @@ class Store:
 
     def test_references(self, pieces):
         """Looks at what the questions below rely on. The rest of the rules over all records is the program's to test."""
-        found = [self.tables[part.cells.table] for part in [*pieces, *self.history, *self.touches, *self.marks]]
-        found += [self.spaces[part.space] for part in [*self.savepoints, *self.history, *self.touches, *self.marks, *self.turns]]
+        found = [self.tables[part.cells.table] for part in [*pieces, *self.history, *self.touches, *self.marks, *self.locks]]
+        found += [self.spaces[part.space] for part in [*self.savepoints, *self.history, *self.touches, *self.marks, *self.locks, *self.turns]]
         found += [self.spaces[space.parent] for space in self.spaces.values()]
         found += [self.rows[part.stamp] for part in [*pieces, *self.history] if not part.is_gone]
         stacked = [version for version in self.versions.values() if version.parent != NO_VERSION]

@@ -72,9 +72,19 @@ class Writer:
             return f"{session}: EXECUTE DBMS_WM.RollbackToSP('{workspace}', '{point}')"
         if pick < 0.91:
             return f"{session}: EXECUTE DBMS_WM.RemoveWorkspace('{workspace}')"
+        if pick < 0.92:
+            return self.lock_line(session)
         if pick < 0.95:
             return f"{session}: EXECUTE DBMS_WM.RefreshWorkspace('{workspace}')"
         return f"{session}: EXECUTE DBMS_WM.MergeWorkspace('{workspace}'{self.random.choice(BESIDES)})"
+
+    def lock_line(self, session):
+        """A line on locks, most of which bar nobody but the other user in one workspace."""
+        workspace, table = self.random.choice(self.workspaces), self.random.choice(list(TABLES))
+        mode = self.random.choice(["WE", "WE", "WE", "VE", "S", "E"])
+        return f"{session}: EXECUTE DBMS_WM." + self.random.choice([
+            f"LockRows('{workspace}', '{table}', 'ID = {self.random.randrange(6)}', '{mode}')", f"UnlockRows('{workspace}', '{table}')",
+            f"SetLockingON('{mode}')\n{session}: UPDATE {table} SET X = 0 WHERE ID < 2\n{session}: EXECUTE DBMS_WM.SetLockingOFF"])
 
     def resolve_lines(self, session):
         """A resolve of a workspace, with a decision on most tables. Now and then it stays open, or is given up."""

@@ -16,14 +16,21 @@ from values import TIMESTAMP_FORMS, instant
 sys.path.remove(FOLDER)
 
 from play_cases import fits, read_case
+from storefile.records import decoded
 
-CHANGES = {"cut", "poke", "set", "add"}
+CHANGES, COUNTERS = {"cut", "poke", "set", "add"}, ["is", "1", "1"]
 # Some lines of the random scripts are a deep tree.
 sys.setrecursionlimit(100_000)
 
 
 def begun(reference, now):
     reference.begin(instant(now.encode(), TIMESTAMP_FORMS))
+
+
+def counted(digits):
+    """The counters that a case tells by the bytes of their record, without the next version."""
+    record = decoded(bytes.fromhex("".join(digits)))
+    return record.next_stamp, record.last_moment, record.limit, record.work
 
 
 def difference(path):
@@ -33,6 +40,8 @@ def difference(path):
         if isinstance(step, list):
             if step[0] in CHANGES:
                 return None
+            if step[:3] == COUNTERS and (found := counted(step[3:])) != reference.counters():
+                return f"{path}: the counters are {reference.counters()}, and {found} are wanted"
             if step[0] == "save":
                 kept[step[1]] = deepcopy(reference)
             elif step[0] == "load":
@@ -113,6 +122,7 @@ class Reading(unittest.TestCase):
             self.look_at_marks(workspace, by_number.get(workspace.parent))
         self.look_at_resolves(reference)
         self.look_at_freezes(reference)
+        self.look_at_locks(reference)
         for session in reference.sessions.values():
             self.assertIn(session.savepoint, [None, *reference.workspaces[session.workspace].savepoints])
 
@@ -137,6 +147,15 @@ class Reading(unittest.TestCase):
         for name, workspace in reference.workspaces.items():
             if workspace.freeze == b"NO_ACCESS":
                 self.assertNotIn(name, [session.workspace for session in reference.sessions.values()])
+
+    def look_at_locks(self, reference):
+        """No two locks of one user in one mode lie over each other in a workspace."""
+        for workspace in reference.workspaces.values():
+            for place, one in enumerate(workspace.locks):
+                self.assertLessEqual(one.place, workspace.place)
+                for other in workspace.locks[:place]:
+                    if (one.table, one.key, one.mode, one.user) == (other.table, other.key, other.mode, other.user):
+                        self.assertFalse(one.period.overlaps(other.period))
 
     def look_at_resolves(self, reference):
         """One session alone has a resolve of a workspace open. What it decided is in conflict until it commits, and later than what was settled."""

@@ -73,11 +73,14 @@ class Lines(Played):
         made(self.store)
         script = TABLE.replace(b"'T'", b"'T', 'VIEW_WO_OVERWRITE', FALSE, TRUE") + b"A: INSERT INTO T VALUES (1, 'a')\n"
         script += (b"A: EXECUTE DBMS_WM.CreateWorkspace('W')\nA: DELETE FROM T\nA: EXECUTE DBMS_WM.GotoWorkspace('W')\n"
-                   b"A: UPDATE T SET NOTE = 'b'\nA: SELECT * FROM t_conf\nA: SELECT * FROM T_HIST\n")
+                   b"A: UPDATE T SET NOTE = 'b'\nA: SELECT * FROM t_conf\nA: SELECT * FROM T_HIST\n"
+                   b"A: EXECUTE DBMS_WM.LockRows('W', 'T')\nA: SELECT * FROM T_LOCK\n")
         said = self.lines(script, "--quiet")
         wanted = ["     WM_WORKSPACE | ID | NOTE | WM_VALID                    | WM_DELETED", "     LIVE         |  1 | NULL | [2024-06-01, UNTIL_CHANGED) | YES",
                   "     ID | NOTE | WM_VALID                    | WM_WORKSPACE | WM_USERNAME | WM_OPTYPE | WM_CREATETIME | WM_RETIRETIME",
-                  "      1 | b    | [2024-06-01, UNTIL_CHANGED) | W            | ANN         | U         | 2024-06-01    |          NULL"]
+                  "      1 | b    | [2024-06-01, UNTIL_CHANGED) | W            | ANN         | U         | 2024-06-01    |          NULL",
+                  "     ID | WM_VALID                    | WM_WORKSPACE | WM_LOCKMODE | WM_USERNAME",
+                  "      1 | [2024-06-01, UNTIL_CHANGED) | W            | E           | ANN"]
         self.assertEqual([line for line in said if line in wanted], wanted)
 
     def test_sheet(self):

@@ -8,7 +8,7 @@ from itertools import combinations
 
 from around import PROGRAM, WithFolder, made, run, store_of_examples, store_of_tutorial, tool
 from random_stores import Writer
-from overview import FREEZES
+from overview import FREEZES, LOCKS
 from shown import shown
 from storefile.pages import SIZE, Damaged, NotAStore, Pages
 from storefile.store import LIVE, opened
@@ -24,7 +24,7 @@ def text(name):
 
 def questions(found):
     """Lines that ask for all rows of each workspace and of each savepoint, and for what its views have; and what the file says to each."""
-    lines = [("CONNECT Z ZOE", ["OK"]), ("Z: EXECUTE DBMS_WM.SetValidTime(DATE '0001-01-01')", ["OK"])]
+    lines = [("CONNECT Z ZOE", ["OK"]), ("Z: EXECUTE DBMS_WM.SetValidTime(DATE '0001-01-01')", ["OK"]), *locks(found)]
     for space in found.spaces.values():
         is_closed = FREEZES[space.freeze] == "NO_ACCESS"
         lines.append((f"Z: EXECUTE DBMS_WM.GotoWorkspace({text(space.name)})", [barred(space) if is_closed else "OK"]))
@@ -47,6 +47,14 @@ def selections(found, version):
         rows = found.rows_seen(version, table)
         shown = ["|".join([*map(printed, row.values), *([str(row.period)] if table.is_valid else [])]) for row in rows]
         yield f"Z: SELECT * FROM {table.name}", [*shown, f"ROWS {len(rows)}"]
+
+
+def locks(found):
+    """Lines that ask for the locks of each table; and what the file says to each."""
+    for table in (table for table in found.tables.values() if table.is_versioned):
+        rows = ["|".join([printed(lock.cells.key), *([str(lock.cells.period)] if table.is_valid else []), printed(found.spaces[lock.space].name),
+                          printed(LOCKS[lock.mode]), printed(lock.user)]) for lock in found.locks if lock.cells.table == table.number]
+        yield f"Z: SELECT * FROM {table.name}_LOCK", [*rows, f"ROWS {len(rows)}"]
 
 
 def views(found, space):
@@ -250,6 +258,22 @@ class Contents(WithFolder):
             self.assertTrue(said.split("  └─ W: ")[1].split("\n")[0].endswith(f", frozen {told}" if told else ", no conflict"))
             drawn = [f"<title>frozen {told}</title>{told.split()[0]}</text>"] if told else []
             self.assertEqual(re.findall("<title>frozen .*?</text>", page), drawn)
+
+    def test_locked(self):
+        """What is locked is told, over its period where the table has valid time."""
+        lines = ["CREATE TABLE T (ID NUMBER PRIMARY KEY)", "EXECUTE DBMS_WM.EnableVersioning('T', validTime => TRUE)",
+                 "CREATE TABLE U (NAME VARCHAR2(9) PRIMARY KEY)", "EXECUTE DBMS_WM.EnableVersioning('U')", "INSERT INTO T VALUES (1)",
+                 "INSERT INTO U VALUES ('<a>')", "EXECUTE DBMS_WM.CreateWorkspace('W')", "EXECUTE DBMS_WM.LockRows('W', 'U', NULL, 'WE')",
+                 "EXECUTE DBMS_WM.LockRows('LIVE', 'T')"]
+        script = "CONNECT A ANN\n" + "".join(f"A: {line}\n" for line in lines)
+        self.assertNotIn(b"WM-", run(made(self.store), "2024-01-01", script.encode()).stdout)
+        said, page = shown(self.store, opened(self.store), 20, 40)
+        self.assertIn("\nWhat is locked\n  LIVE: T 1 [2024-01-01 00:00:00, UNTIL_CHANGED), E by ANN\n  W: U '<a>', WE by ANN\n", said)
+        self.assertIn("<h3>Locked</h3>", page)
+        self.assertIn("</span> U &#x27;&lt;a&gt;&#x27;, WE by ANN</li>", page)
+        run(self.store, "2024-01-01", b"CONNECT A ANN\nA: EXECUTE DBMS_WM.UnlockRows('LIVE', 'T')\nA: EXECUTE DBMS_WM.UnlockRows('W', 'U')\n")
+        said, page = shown(self.store, opened(self.store), 20, 40)
+        self.assertEqual(("What is locked" in said, "<h3>Locked</h3>" in page), (False, False))
 
     def histories(self, found):
         """Each entry of a log has a stamp that was given, and a position in it: of a table with history each is kept, and of
