@@ -1,5 +1,5 @@
 -- The first argument of a call that does not fit.
-use Rattle.std.specs.Prelude.{ℕ, ◌+◌, Bool, if◌then◌else◌, length, is_none, List, [], ◌∷◌, Option, Some, None}
+use Rattle.std.specs.Prelude.{ℕ, ◌+◌, Bool, ◌==◌, ◌||◌, if◌then◌else◌, length, is_none, List, [], ◌∷◌, Option, Some, None}
 use Rattle.std.specs.Option.{option_or, option_map}
 use Rattle.std.specs.List.{find}
 use Rattle.wm_syntax.specs.declared.statement.ArgValue.{ArgValue}
@@ -40,6 +40,10 @@ is_given_for procedure count p place a = is_some_same (parameter_at procedure co
 abbrev pub before_from : Procedure → Parameter → ℕ → ℕ → List Arg → List Arg
 before_from procedure p count place [] = []
 before_from procedure p count place (a ∷ rest) = if is_given_for procedure count p place a then [] else a ∷ before_from procedure p count (place + 1) rest
+
+-- SetDiffVersions takes two arguments or four: how many it asks for where it is given another number
+abbrev pub count_asked : ℕ → Option ℕ
+count_asked count = if (count == 2) || (count == 4) then None else Some (if count == 3 then 4 else 2)
 
 -- the name of the first parameter whose value does not fit, of those that are given before this one
 abbrev pub misfit_before : Procedure → Parameter → List Arg → Option (List ℕ)

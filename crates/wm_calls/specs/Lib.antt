@@ -3,4 +3,3 @@ pub mod Places
 pub mod Arguments
 pub mod Faults
 pub mod Empty
-pub mod Later

@@ -1,7 +1,7 @@
 ghost use Rattle.std.specs.Prelude.{◌≡◌, length};
 ghost use Rattle.std.specs.Option.{option_map};
 ghost use Rattle.wm_calls.specs.Takes.{parameter_name};
-ghost use Rattle.wm_calls.specs.Faults.{fits_parameter, misfit, misfit_from, missing, faulty_parameter, misfit_before, argument_fault};
+ghost use Rattle.wm_calls.specs.Faults.{fits_parameter, misfit, misfit_from, missing, faulty_parameter, misfit_before, argument_fault, count_asked};
 
 use crate::arguments::argument;
 use crate::fits::fits;
@@ -84,6 +84,17 @@ fn missing(procedure: Procedure, args: &[Arg]) -> Option<Parameter>
         }
     }
     None
+}
+
+/// How many arguments SetDiffVersions asks for where it is given so many others: it takes two, the workspaces, or four.
+pub fn count_asked(count: usize) -> Option<u64>
+    ensures { result ≡ count_asked count }
+{
+    match count {
+        2 | 4 => None,
+        3 => Some(4),
+        _ => Some(2),
+    }
 }
 
 /// The parameter whose value does not fit, the first in the line, or else the first that is missing.

@@ -1,12 +1,12 @@
 -- What a plan that changes rows of a table does in the workspace that a session stands in.
-use Rattle.std.proofs.Common.{◌≡◌, ℕ, Bool, true, false, List, [], ◌∷◌, length, Option, Result, Ok, Err, IfOk, refl, sym, ap, ◌∙◌, Vec, Global, vec_len, arith}
+use Rattle.std.proofs.Common.{◌≡◌, ℕ, Bool, true, false, List, [], ◌∷◌, length, Option, Some, Result, Ok, Err, IfOk, refl, sym, ap, ◌∙◌, Vec, Global, vec_len, arith}
 use Rattle.std.proofs.lemmas.Bool.{true≢false}
 use Rattle.wm_base.specs.declared.memory.Memory.{Memory}
 use Rattle.wm_base.specs.declared.refusal.Refusal.{Refusal}
 use Rattle.wm_base.specs.declared.row.Row.{Row}
 use Rattle.wm_dml.specs.Standing.{change_keys}
 use Rattle.wm_dml.specs.declared.change.RowChange.{RowChange}
-use Rattle.wm_graph.specs.Parts.{parts_of}
+use Rattle.wm_graph.specs.Parts.{parts_of, space_of}
 use Rattle.wm_graph.specs.Rules.{keep_rules}
 use Rattle.wm_print.specs.Texts.{Answer, Done}
 use Rattle.wm_spec.specs.declared.record.space.Space.{Space}
@@ -17,21 +17,33 @@ use Rattle.wm_model.specs.Lawful.{is_full_row}
 use Rattle.wm_state.specs.Drawing.{are_sorted}
 use Rattle.wm_state.specs.Standing.{SpaceFields}
 use Rattle.wm_state.specs.State.{State, Session, Workspace}
-use Rattle.wm_model.specs.Planning.{IsOpen, StandsAt, Stay}
-use Rattle.wm_model.specs.Step.{at_newest, not_built, write_all, write_ascending}
+use Rattle.wm_model.specs.Planning.{Does, IsOpen, StandsAt, Stay}
+use Rattle.wm_model.specs.Step.{at_newest, not_built, not_latest, write_all, write_ascending}
 use Rattle.wm_model.proofs.Changing.{ascending, not_ascending}
 use Rattle.wm_model.proofs.Doing.{does_nothing}
 use Rattle.wm_model.proofs.Homes.{home_is}
-use Rattle.wm_model.proofs.Newest.{Acts, ComesTo, comes_to}
+use Rattle.wm_model.proofs.Newest.{Acts, ComesTo, IsGood, comes_to, newest_dated, newest_elsewhere}
 use Rattle.wm_plan.proofs.Planning.{told}
 use Rattle.wm_change.specs.Acting.{AreFull, DoesAs, IsHome}
 use Rattle.wm_plan.specs.Planning.{DoesIt}
 use Rattle.wm_plan.specs.Views.{answer_view, seating_view}
+use Rattle.wm_plan.specs.Stands.{stand_view}
 use Rattle.wm_plan.specs.declared.planned.Planned.{Planned}
+use Rattle.wm_plan.specs.declared.session.Stand.{Stand}
+use Rattle.wm_plan.specs.declared.session.Stand.TheVariants.{Latest, At, Dated}
 
 -- what is done in a workspace
 abbrev pub InSpace : Type 0
 InSpace = State → Workspace → State × Answer
+
+-- ---- where the session stands
+
+-- elsewhere than at what is newest
+pub newest_away : (rs : List Stored) (xs : List Session) (m : ℕ) (session : Session) (name : List ℕ) (fault : Table → Option Refusal) (empty : Bool) (act : Acts) (t : Table) (a : Space) (stand : Stand) → (stand ≡ Latest → ⊥) → IsGood rs name fault t
+    → space_of (parts_of rs).spaces session.space ≡ Some a → stand_view stand ≡ session.stand → Does rs xs m [] Stay not_latest (at_newest session name fault empty act)
+newest_away rs xs m session name fault empty act t a Latest away g found at = absurd (away refl)
+newest_away rs xs m session name fault empty act t a (At making) away g found at = newest_elsewhere rs xs m session name fault empty act t a making g found (sym at)
+newest_away rs xs m session name fault empty act t a (Dated date) away g found at = newest_dated rs xs m session name fault empty act t a date g found (sym at)
 
 -- ---- in general
 

@@ -120,9 +120,9 @@ pub fn delete(
     let Some(space) = image.space(session.space()) else {
         return Ok(Planned::answered(alloc, not_built()));
     };
-    if let Stand::At(_) = session.stand() {
+    let Stand::Latest = session.stand() else {
         return Ok(Planned::answered(alloc, not_latest()));
-    }
+    };
     if empty {
         return Ok(Planned::answered(alloc, empty_period()));
     }
@@ -243,9 +243,9 @@ pub fn update(
     let Some(space) = image.space(session.space()) else {
         return Ok(Planned::answered(alloc, not_built()));
     };
-    if let Stand::At(_) = session.stand() {
+    let Stand::Latest = session.stand() else {
         return Ok(Planned::answered(alloc, not_latest()));
-    }
+    };
     if empty {
         return Ok(Planned::answered(alloc, empty_period()));
     }

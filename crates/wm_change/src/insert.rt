@@ -151,9 +151,9 @@ fn add_found(
     let Some(space) = image.space(session.space()) else {
         return Ok(Planned::answered(alloc, not_built()));
     };
-    if let Stand::At(_) = session.stand() {
+    let Stand::Latest = session.stand() else {
         return Ok(Planned::answered(alloc, not_latest()));
-    }
+    };
     if empty {
         return Ok(Planned::answered(alloc, empty_period()));
     }

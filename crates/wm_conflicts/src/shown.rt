@@ -18,7 +18,7 @@ use wm_spec::record::{Space, Table};
 use wm_view_rows::rows::{Names, Sides, conflict_rows};
 
 /// The values of the row of a stamp.
-fn values_with(image: &Image, stamp: Option<u64>) -> Option<&Values>
+pub fn values_with(image: &Image, stamp: Option<u64>) -> Option<&Values>
     ensures { option_copied result ≡ option_and_then (values_with (parts_of image.now)) stamp }
 {
     let row = image.row(stamp?)?;

@@ -5,6 +5,7 @@ pub mod decision;
 pub mod keep;
 pub mod keyed;
 pub mod netted;
+pub mod viewpoint;
 
 pub use decision::{Copied, Decision, Resolve};
 pub use keep::Keep;

@@ -3,7 +3,6 @@ use Rattle.std.proofs.Common.{◌≡◌, ℕ, false, true, List, refl, sym, ap}
 use Rattle.wm_syntax.specs.Trees.{Projection, All, Outs, Query, Create, Insert, Update, Delete, Select, Call, Line, Connect, Disconnect, At, Run}
 use Rattle.wm_calls.proofs.Lasting.{outs_last, query_lasts}
 use Rattle.wm_calls.specs.Empty.{has_empty_period, projection_has_empty}
-use Rattle.wm_calls.specs.Later.{is_later}
 use Rattle.wm_select.specs.Query.{item_lasts, projection_lasts}
 use Rattle.wm_model.specs.Planning.{StandsAt}
 use Rattle.wm_model.specs.Step.{run_line, run_parsed, timed_line}
@@ -34,5 +33,5 @@ timed_forks m (Run session (Select q)) = refl
 timed_forks m (Run session (Call procedure args condition)) = refl
 
 -- the moment of the records is the state's
-pub timed_runs : (rs : List Stored) (xs : List Session) (m : ℕ) (l : Line) (s : State) → is_later l ≡ false → StandsAt rs xs m s → run_parsed (Ok l) s ≡ run_line (timed_line m l) s
-timed_runs rs xs m l s none st = rw none (ap (λ n. run_line (timed_line n l) s) (sym st.moment_is))
+pub timed_runs : (rs : List Stored) (xs : List Session) (m : ℕ) (l : Line) (s : State) → StandsAt rs xs m s → run_parsed (Ok l) s ≡ run_line (timed_line m l) s
+timed_runs rs xs m l s st = ap (λ n. run_line (timed_line n l) s) (sym st.moment_is)

@@ -9,7 +9,6 @@ pub mod Opening
 pub mod Lasting
 pub mod Dated
 pub mod Timely
-pub mod Calling
 pub mod Replying
 pub mod Sounding
 pub mod Causes

@@ -199,6 +199,7 @@ set_staged p (settings.Begin space) x new is = All-nil (IsStaged p)
 set_staged p settings.End x new is = tt
 set_staged p (settings.Freeze space) x new is = is
 set_staged p (settings.Lock mode) x new is = is
+set_staged p (settings.Compare difference) x new is = is
 set_staged p (settings.Decide ds) x new is = by_resolve x.resolve is
   where
     by_resolve : (o : Option Resolve) → IsStagedResolve p o → IsStagedResolve p (option_map (with_decisions ds) o)

@@ -1,7 +1,7 @@
 -- A savepoint that is made where one stands in a workspace.
 use Rattle.std.proofs.Common.{◌≡◌, ℕ, ◌+◌, ◌≤◌, ◌==◌, ◌&&◌, nat_lt, nat_le, Bool, true, false, List, [], ◌∷◌, ◌++◌, length, Option, Some, None, is_some, refl, sym, ap, subst, ◌∙◌, arith, le_refl}
 use Rattle.std.proofs.lemmas.Bool.{and_parts, ltb-true}
-use Rattle.std.proofs.lemmas.Option.{same_Some}
+use Rattle.std.proofs.lemmas.Option.{none-some, same_Some}
 use Rattle.std.specs.List.{find, count_by}
 use Rattle.std.specs.Option.{option_map}
 use Rattle.std.specs.Str.{bytes_eq}
@@ -14,7 +14,7 @@ use Rattle.wm_spec.specs.declared.record.savepoint.Savepoint.{Savepoint as Recor
 use Rattle.wm_spec.specs.declared.record.space.Space.{Space}
 use Rattle.wm_state.specs.Editing.{counter_limit, place_behind, saved_at}
 use Rattle.wm_state.specs.Points.{HasRoom, Point, made_at, moved, newest_point, next_place_at, point_at, saved_point}
-use Rattle.wm_state.specs.State.{Durable, Workspace, Savepoint, Stand, Latest, At, next_making, savepoint_made, savepoint_named}
+use Rattle.wm_state.specs.State.{Durable, Workspace, Savepoint, Stand, Latest, At, Dated, next_making, savepoint_made, savepoint_named}
 use Rattle.wm_state.specs.Standing.{SpaceFields, SavepointFields, fields_of, fields_in, saved_fields, fields_saved, saved_in, saved_as, making_behind, OnceStand, SavepointsStand, FieldsStand, Stands}
 use Rattle.wm_state.proofs.Counting.{counted_well, counters_move}
 use Rattle.wm_forked.proofs.KeepSaved.{MaySave, version_latest, base_latest, saved_in_space, unnamed_if}
@@ -58,6 +58,7 @@ is_point p a m (At making) pt rules there is = by_record (saved_as p a.number ma
     by_record : (o : Option Record) → saved_as p a.number making ≡ o → IsPoint p a (At making) pt
     by_record None none = absurd (none_some (option_map saved_point (saved_as p a.number making)) pt (ap (option_map saved_point) none) is)
     by_record (Some y) found = subst (λ q. IsPoint p a (At making) q) (same_Some (saved_point y) pt (sym (ap (option_map saved_point) found) ∙ is)) (saved_is p a making y rules there found)
+is_point p a m (Dated date) pt rules there is = absurd (none-some pt is)
 
 -- ---- the records may have the savepoint
 
@@ -113,6 +114,7 @@ may_save p a c m work stand pt name flag implicit makes implicits front back spa
 pub place_same : (p : Parts) (s : Durable) (a : Space) (w : Workspace) (stand : Stand) → IsSpace p s a.number a w → place_behind w stand ≡ next_place_at a stand
 place_same p s a w Latest is = ap (λ (f : SpaceFields). f.next_place + 1) (sym is.fields)
 place_same p s a w (At making) is = ap (λ (f : SpaceFields). f.next_place) (sym is.fields)
+place_same p s a w (Dated date) is = ap (λ (f : SpaceFields). f.next_place) (sym is.fields)
 
 -- a savepoint of the name
 pub name_taken : (p : Parts) (s : Durable) (a : Space) (w : Workspace) (name : List ℕ) (y : Record) → Stands p s → IsSpace p s a.number a w → find (λ (x : Record). bytes_eq name x.name) (saved_in p a.number) ≡ Some y
@@ -211,6 +213,7 @@ made_as p s a w m (At making) pt name flag rules st is there = by_record (saved_
     by_record (Some y) found =
         subst (λ q. MadeAs p s a w m (At making) q name flag) (same_Some (saved_point y) pt (sym (ap (option_map saved_point) found) ∙ there))
         (by_savepoint y (made_some_there p s a.number w rules st.savepoints is.found making y found))
+made_as p s a w m (Dated date) pt name flag rules st is there = absurd (none-some pt there)
 
 -- what is newest is kept so
 made_newest : (p : Parts) (s : Durable) (a : Space) (w : Workspace) (m : ℕ) (name : List ℕ) (flag : Bool) → Stands p s → IsSpace p s a.number a w → MadeAt p s a w m Latest (newest_point p a m) name flag
@@ -267,6 +270,7 @@ made_there p s a w m (At making) pt name flag st is there = by_record (saved_as 
     by_record None none = absurd (none_some (option_map saved_point (saved_as p a.number making)) pt (ap (option_map saved_point) none) there)
     by_record (Some y) found =
         subst (λ q. MadeAt p s a w m (At making) q name flag) (same_Some (saved_point y) pt (sym (ap (option_map saved_point) found) ∙ there)) (made_again p s a w m making y name flag st is found)
+made_there p s a w m (Dated date) pt name flag st is there = absurd (none-some pt there)
 
 -- no savepoint is made where none is there
 pub made_nowhere : (p : Parts) (s : Durable) (a : Space) (w : Workspace) (m : ℕ) (stand : Stand) (name : List ℕ) (flag : Bool) → Stands p s → IsSpace p s a.number a w → point_at p a m stand ≡ None → saved_at m s.spaces w stand name flag ≡ None
@@ -276,3 +280,4 @@ made_nowhere p s a w m (At making) name flag st is none = by_record (saved_as p 
     by_record : (o : Option Record) → saved_as p a.number making ≡ o → saved_at m s.spaces w (At making) name flag ≡ None
     by_record None gone = ap (option_map (λ (k : Savepoint). record k { making = next_making s.spaces; name = name; implicit = flag })) (made_none p s a.number w st is.found making gone)
     by_record (Some y) found = absurd (none_some (option_map saved_point (saved_as p a.number making)) (saved_point y) none (ap (option_map saved_point) found))
+made_nowhere p s a w m (Dated date) name flag st is none = refl

@@ -4,11 +4,12 @@ use Rattle.std.proofs.lemmas.Bool.{false≢true}
 use Rattle.std.specs.List.{list_all}
 use Rattle.wm_base.specs.declared.memory.Memory.{Memory}
 use Rattle.wm_base.specs.declared.refusal.Refusal.{Refusal}
-use Rattle.wm_graph.specs.Parts.{parts_of}
+use Rattle.wm_graph.specs.Parts.{Parts, parts_of}
 use Rattle.wm_ground.specs.Outcomes.{outcome_view}
 use Rattle.wm_model.proofs.Barring.{does_barred as does_refused}
 use Rattle.wm_model.specs.Planning.{Does, SeatsStaged, StandsAt, Stay}
 use Rattle.wm_model.specs.Step.{Outcome, Plan, also, barred, barred_outcome, done_so, for_named, is_before, least, outcome, refused_or, refused_with, run}
+use Rattle.wm_outcome.proofs.Named.{can_outcome, seats_outcome}
 use Rattle.wm_outcome.proofs.Plans.{does_outlined}
 use Rattle.wm_outline.specs.Outline.{Outline, SpaceOutline, outline, outline_of}
 use Rattle.wm_plan.proofs.Planning.{does_one}
@@ -31,6 +32,16 @@ pub does_value : (rs : List Stored) (xs : List Session) (m : ℕ) (r : Result Pl
     → ((s : State) → StandsAt rs xs m s → act s ≡ run (plan (outline s)) s) → IfOk r (λ p. DoesIt rs xs m p act)
 does_value rs xs m (Ok p) plan act is can seats alike = does_one rs xs m p (λ s. run (plan (outline s)) s) act alike (does_outlined rs xs m plan (outcome_view p) (can (outcome_view p) is) (seats (outcome_view p) is) is)
 does_value rs xs m (Err e) plan act is can seats alike = tt
+
+-- so does a plan that makes no edit
+pub does_seating : (rs : List Stored) (xs : List Session) (m : ℕ) (r : Result Planned Memory) (plan : Outline → Plan) (act : State → State × Answer) → IfOk r (λ p. outcome_view p ≡ outcome (plan (outline_of (parts_of rs) xs m)))
+    → ((o : Outline) → (plan o).edits ≡ []) → ((o : Outline) (p : Parts) → SeatsStaged p (plan o).seating) → ((s : State) → act s ≡ run (plan (outline s)) s) → IfOk r (λ p. DoesIt rs xs m p act)
+does_seating rs xs m r plan act is none seats alike =
+    let q : Plan = plan (outline_of (parts_of rs) xs m) in
+    does_value rs xs m r plan act is
+    (λ o same. subst (λ (x : Outcome). CanDraft rs m x.edits) (sym same) (can_outcome rs m q (λ clear. subst (CanDraft rs m) (sym (none (outline_of (parts_of rs) xs m))) tt)))
+    (λ o same. subst (λ (x : Outcome). SeatsStaged (parts_of rs) x.seating) (sym same) (seats_outcome (parts_of rs) q (seats (outline_of (parts_of rs) xs m) (parts_of rs))))
+    (λ s st. alike s)
 
 -- what holds of a plan, where there is memory for it
 pub if_ok : (r : Result Planned Memory) (P Q : Planned → Type 0) → ((p : Planned) → P p → Q p) → IfOk r P → IfOk r Q

@@ -3,5 +3,6 @@
 
 pub mod ground;
 pub mod looks;
+pub mod lost;
 pub mod outcome;
 pub mod places;

@@ -1,2 +1,4 @@
 pub mod Logged
 pub mod Telling
+pub mod Laying
+pub mod Listing

@@ -1,7 +1,7 @@
 -- Entries of a log on a table, by position; and what the rules say of an entry.
-use Rattle.std.proofs.Common.{◌≡◌, ℕ, ◌<◌, ◌≤◌, ◌==◌, nat_lt, nat_le, Bool, true, false, cond, ◌&&◌, List, [], ◌∷◌, map, Option, Some, None, refl, sym, ap, ◌∙◌}
+use Rattle.std.proofs.Common.{◌≡◌, ℕ, ◌<◌, ◌≤◌, ◌==◌, nat_lt, nat_le, Bool, true, false, cond, ◌&&◌, List, [], ◌∷◌, ◌++◌, map, Option, Some, None, refl, sym, ap, subst, ◌∙◌, append_assoc, arith}
 use Rattle.std.proofs.lemmas.Map.Keys.{sorted_head, sorted_tail}
-use Rattle.std.proofs.lemmas.Bool.{and_parts, leb-true, ltb-true}
+use Rattle.std.proofs.lemmas.Bool.{and_parts, eq-eqb, leb-true, ltb-true}
 use Rattle.std.specs.List.{find, list_all}
 use Rattle.std.specs.List.Sorted.{IsStrictlySortedBy}
 use Rattle.std.specs.Option.{option_and_then, option_map_or}
@@ -20,7 +20,8 @@ use Rattle.wm_index.proofs.Firsts.{find-filter}
 use Rattle.wm_index.specs.Hists.{AreByPosition, logged_on, stands_at}
 use Rattle.wm_state.proofs.Apart.{ruled}
 use Rattle.wm_state.proofs.ByKind.{Split, kinds, kinds-one, split_of}
-use Rattle.wm_state.proofs.Tests.{all_middle}
+use Rattle.wm_state.proofs.Tests.{all_if, all_middle}
+use Rattle.wm_version_rows.proofs.Late.{ended}
 use Rattle.wm_view_rows.specs.History.{AreLogged, Follow}
 
 -- ---- the entries of a log
@@ -87,3 +88,77 @@ has_time ss id x rules found =
     time_of (parts_of ss) r.counters.next_stamp x
     (one_found (is_hist (table_of (parts_of ss).tables) (space_of (parts_of ss).spaces) (row_of (parts_of ss).rows) r.counters.next_stamp) ss id x found
     (and_parts (differ same_position (parts_of ss).hists) _ r.hists).1)
+
+-- ---- each entry of a log on a table
+
+-- the first of them stands before each other
+stands_before : (y : Hist) (front : List Hist) (x : Hist) (back : List Hist) → Follow (y ∷ front ++ x ∷ back) → y.position < x.position
+stands_before y [] x back order = order.0
+stands_before y (z ∷ front) x back order = let first = order.0 in let rest = stands_before z front x back order.1 in omega (arith, first, rest)
+
+behind_first : (y : Hist) (xs : List Hist) → Follow (y ∷ xs) → Follow xs
+behind_first y [] order = tt
+behind_first y (z ∷ zs) order = order.1
+
+other_place : (m n : ℕ) → m < n → (m == n) ≡ false
+other_place m n less = grind (arith, less)
+
+-- each is found at its own position
+found_own : (front : List Hist) (x : Hist) (back : List Hist) → Follow (front ++ x ∷ back) → find (λ (y : Hist). y.position == x.position) (front ++ x ∷ back) ≡ Some x
+found_own [] x back order = ap (λ b. cond b (Some x) (find (λ (y : Hist). y.position == x.position) back)) (eq-eqb x.position x.position refl)
+found_own (y ∷ front) x back order =
+    ap (λ b. cond b (Some y) (find (λ (z : Hist). z.position == x.position) (front ++ x ∷ back))) (other_place y.position x.position (stands_before y front x back order))
+    ∙ found_own front x back (behind_first y (front ++ x ∷ back) order)
+
+-- what was found passes the test by which it was found, and each that all pass
+found_passes : (sought test : Hist → Bool) (x : Hist) (xs : List Hist) → find sought xs ≡ Some x → list_all test xs ≡ true → (sought x ≡ true) × (test x ≡ true)
+found_passes sought test x [] found each = cc
+found_passes sought test x (y ∷ ys) found each = by_test (sought y) refl found (λ is. found_passes sought test x ys is both.1)
+  where
+    both : (test y ≡ true) × (list_all test ys ≡ true)
+    both = and_parts (test y) (list_all test ys) each
+
+    the_same : (y ≡ x) → sought y ≡ true → (sought x ≡ true) × (test x ≡ true)
+    the_same is passes = subst (λ (z : Hist). (sought z ≡ true) × (test z ≡ true)) is (passes, both.0)
+
+    by_test : (b : Bool) → sought y ≡ b → cond b (Some y) (find sought ys) ≡ Some x → (find sought ys ≡ Some x → (sought x ≡ true) × (test x ≡ true)) → (sought x ≡ true) × (test x ≡ true)
+    by_test true passes is rest = the_same (cc) passes
+    by_test false fails is rest = rest is
+
+-- each is on the table, and passes a test that the records of all entries pass
+logged_pass : (p : Parts) (n table : ℕ) (test : Hist → Bool) (front xs : List Hist) → AreLogged p n table (front ++ xs) → list_all test p.hists ≡ true → list_all (λ (x : Hist). (x.cells.table == table) && test x) xs ≡ true
+logged_pass p n table test front [] are each = refl
+logged_pass p n table test front (x ∷ xs) are each =
+    let passes =
+    found_passes (λ (y : Hist). (y.space == n) && ((y.cells.table == table) && (y.position == x.position))) test x p.hists (sym (are.same x.position) ∙ found_own front x xs are.follow) each in
+    let own = and_parts (x.space == n) ((x.cells.table == table) && (x.position == x.position)) passes.0 in
+    let place = and_parts (x.cells.table == table) (x.position == x.position) own.1 in
+    both (x.cells.table == table) (test x) (list_all (λ (y : Hist). (y.cells.table == table) && test y) xs) place.0 passes.1
+    (logged_pass p n table test (front ++ x ∷ []) xs (subst (AreLogged p n table) (sym (append_assoc front (x ∷ []) xs)) are) each)
+  where
+    both : (a b c : Bool) → a ≡ true → b ≡ true → c ≡ true → ((a && b) && c) ≡ true
+    both a b c first second third = rw (first, second, third) refl
+
+-- none goes on behind the end of time
+have_ended : (p : Parts) → keep_rules p ≡ true → list_all (λ (x : Hist). nat_le x.cells.till END) p.hists ≡ true
+have_ended p rules =
+    let r = ruled p rules in
+    all_if (is_hist (table_of p.tables) (space_of p.spaces) (row_of p.rows) r.counters.next_stamp) (λ (x : Hist). nat_le x.cells.till END) (one r.counters.next_stamp) p.hists
+    (and_parts (differ same_position p.hists) (list_all (is_hist (table_of p.tables) (space_of p.spaces) (row_of p.rows) r.counters.next_stamp) p.hists) r.hists).1
+  where
+    one : (next : ℕ) (x : Hist) → is_hist (table_of p.tables) (space_of p.spaces) (row_of p.rows) next x ≡ true → nat_le x.cells.till END ≡ true
+    one next x is =
+        let h = and_parts (is_short x.user && option_map_or (λ (s : Space). nat_lt x.position s.log_length) (space_of p.spaces x.space) false) _ is in
+        ended (table_of p.tables) x.cells (and_parts (are_cells (table_of p.tables) x.cells) _ h.1).0
+
+-- so that it is on the table
+pub all_on : (p : Parts) (n table : ℕ) (xs : List Hist) → keep_rules p ≡ true → AreLogged p n table xs → list_all (λ (x : Hist). x.cells.table == table) xs ≡ true
+all_on p n table xs rules are =
+    all_if (λ (x : Hist). (x.cells.table == table) && nat_le x.cells.till END) (λ (x : Hist). x.cells.table == table) (λ x e. (and_parts (x.cells.table == table) (nat_le x.cells.till END) e).0) xs
+    (logged_pass p n table (λ (x : Hist). nat_le x.cells.till END) [] xs are (have_ended p rules))
+
+-- and none goes on behind the end of time
+pub all_ended : (p : Parts) (n table : ℕ) (xs : List Hist) → keep_rules p ≡ true → AreLogged p n table xs → list_all (λ (x : Hist). nat_le x.cells.till END) xs ≡ true
+all_ended p n table xs rules are =
+    all_if (λ (x : Hist). (x.cells.table == table) && nat_le x.cells.till END) (λ (x : Hist). nat_le x.cells.till END) (λ x e. (and_parts (x.cells.table == table) (nat_le x.cells.till END) e).1) xs
+    (logged_pass p n table (λ (x : Hist). nat_le x.cells.till END) [] xs are (have_ended p rules))

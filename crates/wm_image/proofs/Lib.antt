@@ -12,3 +12,4 @@ pub mod Coming
 pub mod Least
 pub mod Turned
 pub mod Locked
+pub mod Soonest

@@ -32,7 +32,7 @@ use Rattle.wm_index.specs.declared.index.Index.{Index}
 
 -- ---- the tests
 
-of_test : (n : ℕ) → Tests as_savepoint (λ (x : Savepoint). x.space == n) (is_sought (SavepointsOf n))
+pub of_test : (n : ℕ) → Tests as_savepoint (λ (x : Savepoint). x.space == n) (is_sought (SavepointsOf n))
 of_test n (records.Savepoint x) = refl
 of_test n _ = refl
 

@@ -1,3 +1,4 @@
 pub mod Indexing
 pub mod Shown
 pub mod Locked
+pub mod Soonest

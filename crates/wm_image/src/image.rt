@@ -1,5 +1,5 @@
 //! All records of a store, found by what they are.
-ghost use Rattle.std.specs.Prelude.{◌≡◌, ◌<◌, ◌≤◌, ◌+◌, ◌^◌, ◌==◌, ◌||◌, nat_lt, ℕ, not, length, List, [], ◌∷◌, true, false, None, is_some, IsSome, IfSome, IfNone, IfOk, IfErr, OnOk, OnErr};
+ghost use Rattle.std.specs.Prelude.{◌≡◌, ◌<◌, ◌≤◌, ◌+◌, ◌^◌, ◌==◌, ◌||◌, nat_lt, ℕ, not, length, map, List, [], ◌∷◌, true, false, None, is_some, IsSome, IfSome, IfNone, IfOk, IfErr, OnOk, OnErr};
 ghost use Rattle.std.specs.List.{count_by, find, list_all, list_any};
 ghost use Rattle.wm_spec.specs.declared.record.stored.Stored.{Stored};
 ghost use Rattle.std.specs.Option.{option_and_then, option_copied, option_map, option_map_or, option_to_list, unwrap_or};
@@ -22,12 +22,14 @@ ghost use Rattle.wm_spec.specs.declared.record.space.Space.{Space as OneSpace};
 ghost use Rattle.wm_state.specs.Drafts.{is_turn};
 ghost use Rattle.wm_state.specs.Effects.{IsFree};
 ghost use Rattle.wm_state.specs.Firsts.{first_recorded};
-ghost use Rattle.wm_state.specs.Standing.{by_number, latest, saved_as, saved_in, space_after};
+ghost use Rattle.wm_state.specs.Reading.{first_from};
+ghost use Rattle.wm_state.specs.Standing.{by_number, latest, saved_as, saved_fields, saved_in, space_after, turn_at};
 ghost use Rattle.wm_state.specs.State.{next_table};
 
 use crate::children::{Behind, any_behind, least_child};
 use crate::load::{ImageFault, put_with_catalog, sorted};
-use crate::shown::latest_of;
+use crate::savepoints::soonest;
+use crate::shown::{latest_of, turn_of};
 use std::alloc::Global;
 use std::collections::BTreeSet;
 use std::marker::Model;
@@ -51,7 +53,7 @@ use wm_records::records::{apply_all, clear_all};
 use wm_records::tables::after_last;
 use wm_rules::keeps_rules;
 use wm_spec::record::{
-    Batch, Counters, Record, Records, RowRecord, Savepoint, Space, Table, Version,
+    Batch, Counters, Record, Records, RowRecord, Savepoint, Space, Table, Turn, Version,
 };
 
 /// All records of a store, in the order of their ids, with an index of them, the hops of the versions (the long steps
@@ -271,6 +273,14 @@ impl Image {
         savepoint_in(&self.kept, ids_of(&self.index.savepoints, &making), space)
     }
 
+    /// The first savepoint of a workspace that was made on a date or later: the one at the least place, and of these the
+    /// one made first.
+    pub fn savepoint_from(&self, space: u32, date: u64) -> Option<&Savepoint>
+        ensures { option_map saved_fields (option_copied result) ≡ first_from date (map saved_fields (saved_in (parts_of self.now) space)) }
+    {
+        soonest(&self.kept, ids_of(&self.index.savepoints_of, &space), date)
+    }
+
     /// How many savepoints a workspace has.
     pub fn savepoint_count(&self, space: u32) -> usize
         ensures { result ≡ count_by (λ (x : OneSavepoint). x.space == space) (parts_of self.now).savepoints }
@@ -426,6 +436,13 @@ impl Image {
         ensures { result ≡ list_any (is_turn space number) (parts_of self.now).turns }
     {
         !ids_of(&self.index.turns_at, &(space, number)).is_empty()
+    }
+
+    /// The turn of a workspace of a number: its birth for 0, and then each rebase.
+    pub fn turn(&self, space: u32, number: u32) -> Option<&Turn>
+        ensures { option_copied result ≡ turn_at (parts_of self.now).turns space number }
+    {
+        turn_of(first(&self.kept, ids_of(&self.index.turns_at, &(space, number))))
     }
 
     /// The row of a stamp.

@@ -6,6 +6,7 @@ pub mod image;
 mod indexing;
 pub mod load;
 mod locks;
+mod savepoints;
 pub mod shown;
 
 pub use image::Image;

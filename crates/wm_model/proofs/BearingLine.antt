@@ -26,7 +26,7 @@ use Rattle.wm_state.proofs.Spaces.{IsSpace, space_is, named_space, named_no_spac
 use Rattle.wm_model.specs.Lawful.{IsAt}
 use Rattle.wm_model.specs.Planning.{StandsAt, Does, IsOpen, Stay}
 use Rattle.wm_model.specs.Saving.{BearsIn, BearsRoomy, MayBearIn}
-use Rattle.wm_model.specs.Step.{create_workspace, bear, bearing_faults, counting_faults, first_fault, unless, born, implicit_name, implicit_front, place_behind, saved_at, durably, is_name, names_no_workspace, workspace_there, savepoint_there, most_workspaces, most_savepoints, at_its_end, number_limit, counter_limit, line_work}
+use Rattle.wm_model.specs.Step.{create_workspace, bear, bearing_faults, counting_faults, first_fault, unless, born, implicit_name, is_dated, implicit_front, place_behind, saved_at, durably, is_name, names_no_workspace, workspace_there, not_latest, savepoint_there, most_workspaces, most_savepoints, at_its_end, number_limit, counter_limit, line_work}
 use Rattle.wm_model.proofs.Doing.{does_nothing, does_edit, spent_at, not_spent_at}
 use Rattle.wm_model.proofs.Homes.{open_place}
 use Rattle.wm_model.proofs.Lawful.Places.{saved_there}
@@ -83,19 +83,25 @@ bear_taken rs xs m session name a y bears there =
     (λ s st. let h = home rs xs m session name a s bears st in
     h.runs ∙ rw (taken_so rs s session name a y h st.stands there) (ap (λ n. (s, savepoint_there n)) h.implicit))
 
+pub bear_dated : (rs : List Stored) (xs : List Session) (m : ℕ) (session : Session) (name : List ℕ) (a : Space) → BearsIn rs session name a
+    → find (λ (x : Record). bytes_eq (implicit_of a) x.name) (saved_in (parts_of rs) a.number) ≡ None → is_dated session.stand ≡ true → Does rs xs m [] Stay not_latest (create_workspace session name)
+bear_dated rs xs m session name a bears new dated =
+    does_nothing rs xs m not_latest (create_workspace session name)
+    (λ s st. let h = home rs xs m session name a s bears st in h.runs ∙ rw (free_so rs s session name a h st.stands new, dated) refl)
+
 pub bear_full : (rs : List Stored) (xs : List Session) (m : ℕ) (session : Session) (name : List ℕ) (a : Space) → BearsIn rs session name a
-    → find (λ (x : Record). bytes_eq (implicit_of a) x.name) (saved_in (parts_of rs) a.number) ≡ None → nat_le 1024 (length (parts_of rs).spaces) ≡ true → Does rs xs m [] Stay most_workspaces (create_workspace session name)
-bear_full rs xs m session name a bears new full =
+    → find (λ (x : Record). bytes_eq (implicit_of a) x.name) (saved_in (parts_of rs) a.number) ≡ None → is_dated session.stand ≡ false → nat_le 1024 (length (parts_of rs).spaces) ≡ true → Does rs xs m [] Stay most_workspaces (create_workspace session name)
+bear_full rs xs m session name a bears new plain full =
     does_nothing rs xs m most_workspaces (create_workspace session name)
-    (λ s st. let h = home rs xs m session name a s bears st in h.runs ∙ rw (free_so rs s session name a h st.stands new, spaces_so (parts_of rs) s.durable true st.stands full) refl)
+    (λ s st. let h = home rs xs m session name a s bears st in h.runs ∙ rw (free_so rs s session name a h st.stands new, plain, spaces_so (parts_of rs) s.durable true st.stands full) refl)
 
 pub bear_crowded : (rs : List Stored) (xs : List Session) (m : ℕ) (session : Session) (name : List ℕ) (a : Space) → BearsIn rs session name a
-    → find (λ (x : Record). bytes_eq (implicit_of a) x.name) (saved_in (parts_of rs) a.number) ≡ None → nat_le 1024 (length (parts_of rs).spaces) ≡ false
+    → find (λ (x : Record). bytes_eq (implicit_of a) x.name) (saved_in (parts_of rs) a.number) ≡ None → is_dated session.stand ≡ false → nat_le 1024 (length (parts_of rs).spaces) ≡ false
     → nat_le 4096 (count_by (λ (x : Record). x.space == a.number) (parts_of rs).savepoints) ≡ true → Does rs xs m [] Stay most_savepoints (create_workspace session name)
-bear_crowded rs xs m session name a bears new few full =
+bear_crowded rs xs m session name a bears new plain few full =
     does_nothing rs xs m most_savepoints (create_workspace session name)
     (λ s st. let h = home rs xs m session name a s bears st in
-    h.runs ∙ rw (free_so rs s session name a h st.stands new, spaces_so (parts_of rs) s.durable false st.stands few, few_same (parts_of rs) s.durable a h.workspace true st.stands h.is full) refl)
+    h.runs ∙ rw (free_so rs s session name a h st.stands new, plain, spaces_so (parts_of rs) s.durable false st.stands few, few_same (parts_of rs) s.durable a h.workspace true st.stands h.is full) refl)
 
 -- ---- the counts
 
@@ -107,7 +113,7 @@ roomy : (rs : List Stored) (s : State) (session : Session) (name : List ℕ) (a 
     → create_workspace session name s ≡ counted session.stand name s h.workspace
 roomy rs s session name a h st may =
     h.runs
-    ∙ rw (free_so rs s session name a h st may.room.new, spaces_so (parts_of rs) s.durable false st may.few, few_same (parts_of rs) s.durable a h.workspace false st h.is may.room.few) refl
+    ∙ rw (free_so rs s session name a h st may.room.new, may.undated, spaces_so (parts_of rs) s.durable false st may.few, few_same (parts_of rs) s.durable a h.workspace false st h.is may.room.few) refl
 
 place_so : (p : Parts) (s : Durable) (a : Space) (w : Workspace) (stand : Stand) (b : Bool) → IsSpace p s a.number a w → nat_lt number_limit (next_place_at a stand) ≡ b → nat_lt number_limit (place_behind w stand) ≡ b
 place_so p s a w stand b is e = ap (nat_lt number_limit) (place_same p s a w stand is) ∙ e
@@ -151,17 +157,17 @@ somewhere : (stand : Stand) (name : List ℕ) (s : State) (w : Workspace) (k : S
     → nat_lt number_limit (next_space s.durable.spaces) ≡ false → saved_at s.moment s.durable.spaces w stand (implicit_name w) true ≡ Some k → counted stand name s w ≡ durably s 0 (record s { durable = born s.moment w stand name k s.durable }, Fine)
 somewhere stand name s w k places implicits numbers some = rw (places, implicits, numbers, some) refl
 
--- an open session stands where a savepoint may be made, so what is done elsewhere does whatever is said
-pub does_standless : (rs : List Stored) (xs : List Session) (m : ℕ) (session : Session) (a : Space) (answer : Answer) (act : State → State × Answer) → IsOpen xs session → space_of (parts_of rs).spaces session.space ≡ Some a
+-- an open session stands where a savepoint may be made, but on a date, so what is done elsewhere does whatever is said
+pub does_standless : (rs : List Stored) (xs : List Session) (m : ℕ) (session : Session) (a : Space) (answer : Answer) (act : State → State × Answer) → IsOpen xs session → is_dated session.stand ≡ false → space_of (parts_of rs).spaces session.space ≡ Some a
     → point_at (parts_of rs) a m session.stand ≡ None → Does rs xs m [] Stay answer act
-does_standless rs xs m session a answer act among found none =
+does_standless rs xs m session a answer act among plain found none =
     does_nothing rs xs m answer act
     (λ s st. let h = space_is (parts_of rs) s.durable session.space a st.stands found in
     let p = open_place rs xs m s session st among in
     let same : p.space ≡ h.workspace = same_Some p.space h.workspace (sym p.is ∙ h.is.found) in
     let is : IsSpace (parts_of rs) s.durable a.number a h.workspace = subst (λ n. IsSpace (parts_of rs) s.durable n a h.workspace) (sym h.is.record_number) h.is in
     let there : is_some (saved_at m s.durable.spaces h.workspace session.stand (implicit_of a) true) ≡ true =
-    saved_there m s.durable.spaces h.workspace session.stand (implicit_of a) true (subst (λ (w : Workspace). IsAt w session.stand) same p.stands) in
+    saved_there m s.durable.spaces h.workspace session.stand (implicit_of a) true (subst (λ (w : Workspace). IsAt w session.stand) same p.stands) plain in
     absurd (true≢false (sym there ∙ ap (λ o. is_some o) (made_nowhere (parts_of rs) s.durable a h.workspace m session.stand (implicit_of a) true st.stands is none))))
 
 -- the savepoint that is made in the state

@@ -12,6 +12,8 @@ pub mod Newest
 pub mod Changing
 pub mod Parting
 pub mod Written
+pub mod Reading
+pub mod Differing
 pub mod Looking
 pub mod Selecting
 pub mod SavingLine

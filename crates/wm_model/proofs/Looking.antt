@@ -1,5 +1,5 @@
 -- What a session sees in each state that the records stand for, by what it looks at.
-use Rattle.std.proofs.Common.{◌≡◌, ℕ, ◌==◌, ◌&&◌, not, Bool, true, false, if◌then◌else◌, List, [], ◌∷◌, map, Option, Some, None, is_some, unwrap_or, refl, sym, ap, subst, ◌∙◌}
+use Rattle.std.proofs.Common.{◌≡◌, ℕ, ◌+◌, ◌==◌, ◌&&◌, not, Bool, true, false, if◌then◌else◌, List, [], ◌∷◌, length, map, Option, Some, None, unwrap_or, refl, sym, ap, subst, ◌∙◌, arith}
 use Rattle.std.proofs.lemmas.Bool.{not-false}
 use Rattle.std.specs.Option.{option_map_or}
 use Rattle.wm_base.proofs.Plain.{none_some, nonzero}
@@ -12,17 +12,15 @@ use Rattle.wm_graph.specs.Parts.{Parts, parts_of, space_of, table_of}
 use Rattle.wm_graph.specs.Rules.{keep_rules}
 use Rattle.wm_guard.proofs.Alike.{locks_in-listed, makings_differ}
 use Rattle.wm_guard.specs.Barring.{locks_in}
-use Rattle.wm_spec.specs.declared.record.savepoint.Savepoint.{Savepoint as Record}
+use Rattle.wm_outline.proofs.Outlines.{outline_is}
+use Rattle.wm_outline.specs.Outline.{Outline, outline, outline_of}
 use Rattle.wm_spec.specs.declared.record.space.Space.{Space}
 use Rattle.wm_spec.specs.declared.record.stored.Stored.{Stored}
 use Rattle.wm_spec.specs.declared.record.table.Table.{Table}
-use Rattle.wm_state.specs.Listing.{IsShowing}
-use Rattle.wm_state.specs.State.{Durable, State, Session, Workspace, Stand, Latest, At, seen_from, workspace_named, workspace_of}
-use Rattle.wm_state.specs.Standing.{SpaceFields, SpacesStand, Stands, latest, saved_as}
+use Rattle.wm_state.specs.Reading.{seen_from}
+use Rattle.wm_state.specs.State.{Difference, State, Session, Workspace, workspace_of}
+use Rattle.wm_state.specs.Standing.{SpaceFields, SpacesStand, Stands}
 use Rattle.wm_state.proofs.Apart.{ruled}
-use Rattle.wm_state.proofs.Listed.{showing_is, showing_saved}
-use Rattle.wm_state.proofs.Showing.{none_shown}
-use Rattle.wm_state.proofs.SavedAs.{made_some, made_none}
 use Rattle.wm_state.proofs.Spaces.{IsSpace, named_no_space, named_space, record_there, space_there}
 use Rattle.wm_view_rows.proofs.Conflicts.{conflict_view_is}
 use Rattle.wm_view_rows.proofs.History.{history_view_is}
@@ -31,69 +29,30 @@ use Rattle.wm_view_rows.specs.Conflicts.{IsConflictView, conflict_view}
 use Rattle.wm_view_rows.specs.Locks.{lock_row, lock_view}
 use Rattle.wm_view_rows.specs.Views.{is_history, table_sought, view_named}
 use Rattle.wm_view_rows.specs.declared.view.View.{View}
-use Rattle.wm_view_rows.specs.declared.view.View.TheVariants.{Rows, Conflicts, History, Locks}
-use Rattle.wm_model.specs.Looking.{IsFamilyOf, IsLook, conflicting_space, lost_name, lost_space, space_named}
-use Rattle.wm_model.specs.Planning.{StandsAt, tables_in, version_read}
-use Rattle.wm_model.specs.Sources.{AreConflicts, AreListed, IsSeen, Look, recorded_name}
-use Rattle.wm_model.specs.Step.{asks_conflicts, conflicting, conflicts_shown, lacks_history, lost_choice, lost_conflicts, lost_history, parent_in, rows_in, shown_by, source_name, sources_in, space_name, table_asked, view_shown, within}
+use Rattle.wm_view_rows.specs.declared.view.View.TheVariants.{Rows, Conflicts, Differences, History, Locks}
+use Rattle.wm_model.specs.Lawful.{LawfulSpaces}
+use Rattle.wm_model.specs.Looking.{IsFamilyOf, IsLook, conflicting_space, space_named}
+use Rattle.wm_model.specs.Planning.{StandsAt, tables_in}
+use Rattle.wm_model.specs.Sources.{AreConflicts, AreDifferent, AreListed, IsRead, IsSeen, Look, Reading, recorded_name}
+use Rattle.wm_model.specs.Step.{conflicting, conflicts_shown, first_lost, lacks_history, lost_history, parent_in, rows_in, savepoint_lost, shown_by, source_name, sources_in, space_name, table_asked, view_shown, within, workspace_lost}
+use Rattle.wm_model.proofs.Differing.{LiveTook, differences_seen}
 use Rattle.wm_model.proofs.Families.{related}
+use Rattle.wm_model.proofs.Lawful.Spaces.{number_is}
 use Rattle.wm_model.proofs.Named.{named_is}
+use Rattle.wm_model.proofs.Reading.{seen_read}
 
--- ---- the rows of a table
+-- ---- what is not there
 
--- a version shows these rows of a table in a period
-abbrev Shows : List Stored → ℕ → Table → Span → List Row → Type 0
-Shows rs version t period out = IsShowing (parts_of rs) version t.number t.valid period out
+-- what a view asks for is not there where the records say so: they have the workspaces and the savepoints of the state
+pub spaces_lost_same : (rs : List Stored) (s : State) (session : Session) (sources : List Src) → Stands (parts_of rs) s.durable
+    → first_lost (workspace_lost (outline s) session) sources ≡ first_lost (workspace_lost (outline_of (parts_of rs) [] 0) session) sources
+spaces_lost_same rs s session sources st = ap (λ (o : Outline). first_lost (workspace_lost o session) sources) (sym (outline_is (parts_of rs) s.sessions s.moment s st refl refl))
 
--- the rows that the session sees are these in each workspace that the records stand for
-abbrev AreSeen : List Stored → Session → Table → Span → List Row → Type 0
-AreSeen rs session t period out = (s : Durable) (w : Workspace) → Stands (parts_of rs) s → workspace_of s.spaces session.space ≡ Some w → out ≡ rows_in period (seen_from w session.stand) t
+pub savepoints_lost_same : (rs : List Stored) (s : State) (session : Session) (sources : List Src) → Stands (parts_of rs) s.durable
+    → first_lost (savepoint_lost (outline s) session) sources ≡ first_lost (savepoint_lost (outline_of (parts_of rs) [] 0) session) sources
+savepoints_lost_same rs s session sources st = ap (λ (o : Outline). first_lost (savepoint_lost o session) sources) (sym (outline_is (parts_of rs) s.sessions s.moment s st refl refl))
 
--- at what is newest they are those that the newest version holds
-seen_latest : (rs : List Stored) (session : Session) (t : Table) (period : Span) (out : List Row) → session.stand ≡ Latest → Shows rs (latest (parts_of rs) session.space) t period out → AreSeen rs session t period out
-seen_latest rs session t period out at is s w st found =
-    showing_is (parts_of rs) s session.space w t.number t.valid period out st found is ∙ ap (λ stand. rows_in period (seen_from w stand) t) (sym at)
-
--- at a savepoint those that its version holds
-seen_saved : (rs : List Stored) (session : Session) (t : Table) (period : Span) (out : List Row) (making : ℕ) → keep_rules (parts_of rs) ≡ true → session.stand ≡ At making
-    → Shows rs (version_read (parts_of rs) session.space (At making)) t period out → AreSeen rs session t period out
-seen_saved rs session t period out making rules at is s w st found = by_record (saved_as (parts_of rs) session.space making) refl ∙ ap (λ stand. rows_in period (seen_from w stand) t) (sym at)
-  where
-    by_record : (o : Option Record) → saved_as (parts_of rs) session.space making ≡ o → out ≡ rows_in period (seen_from w (At making)) t
-    by_record None none =
-        rw (made_none (parts_of rs) s session.space w st found making none)
-        (none_shown (parts_of rs) t.number t.valid period out rules (subst (λ (o : Option Record). Shows rs (option_map_or (λ (x : Record). x.version) o 0) t period out) none is))
-    by_record (Some x) recorded =
-        let k = made_some (parts_of rs) s session.space w st found making x recorded in
-        rw k.1
-        (showing_saved (parts_of rs) s session.space making w k.0 x t.number t.valid period out st found k.1 recorded
-        (subst (λ (o : Option Record). Shows rs (option_map_or (λ (x : Record). x.version) o 0) t period out) recorded is))
-
--- they are those of the version that the session reads
-seen_read : (rs : List Stored) (session : Session) (t : Table) (period : Span) (out : List Row) → keep_rules (parts_of rs) ≡ true → Shows rs (version_read (parts_of rs) session.space session.stand) t period out
-    → AreSeen rs session t period out
-seen_read rs session t period out rules is = by_stand session.stand refl
-  where
-    by_stand : (stand : Stand) → session.stand ≡ stand → AreSeen rs session t period out
-    by_stand Latest at = seen_latest rs session t period out at (subst (λ (x : Stand). Shows rs (version_read (parts_of rs) session.space x) t period out) at is)
-    by_stand (At making) at = seen_saved rs session t period out making rules at (subst (λ (x : Stand). Shows rs (version_read (parts_of rs) session.space x) t period out) at is)
-
--- ---- the workspace whose conflicts are looked at
-
--- the one that was set is there where its record is
-lost_same : (rs : List Stored) (s : State) (o : Option (List ℕ)) → Stands (parts_of rs) s.durable → lost_choice s.durable.spaces o ≡ lost_name (parts_of rs).spaces o
-lost_same rs s None st = refl
-lost_same rs s (Some name) st = by_record (space_named name (parts_of rs).spaces) refl
-  where
-    told : Bool → Option (List ℕ)
-    told there = if there then None else Some name
-
-    by_record : (o : Option Space) → space_named name (parts_of rs).spaces ≡ o → told (is_some (workspace_named name s.durable.spaces)) ≡ told (is_some o)
-    by_record None none = ap (λ (w : Option Workspace). told (is_some w)) (named_no_space (parts_of rs) s.durable name st none)
-    by_record (Some r) found = ap (λ (w : Option Workspace). told (is_some w)) (named_space (parts_of rs) s.durable name r st found).named
-
-pub lost_conflicts_same : (rs : List Stored) (s : State) (session : Session) (sources : List Src) → Stands (parts_of rs) s.durable → lost_conflicts s.durable.spaces session sources ≡ lost_space (parts_of rs).spaces session sources
-lost_conflicts_same rs s session sources st = ap (λ (o : Option (List ℕ)). if asks_conflicts sources then o else None) (lost_same rs s session.conflict st)
+-- ---- conflicts
 
 -- in a state that the records stand for
 record Conflicting (rs : List Stored) (s : State) (o : Option (List ℕ)) (home : Workspace) (a : Space) : Type 0 where
@@ -120,6 +79,16 @@ conflicts_seen rs xs m s a w t (Some x) rows st is family are =
     conflict_view_is (parts_of rs) s.durable a.number w r.q a x.1 t rows r.beside r.base r.rows (subst (λ (k : Space). IsConflictView (parts_of rs) k x.1 t rows) family.0 are)
     ∙ ap (λ (q : Workspace). conflict_view q w t) (sym r.parent_is)
     ∙ sym (ap (λ (b : Bool). if b then [] else conflict_view (parent_in s w) w t) (ap (λ (n : ℕ). n == 0) is.number ∙ nonzero a.number family.1.0))
+
+-- ---- differences
+
+-- LIVE took no turn
+none_there : {A : Type 0} (xs : List A) → length xs ≡ 0 → xs ≡ []
+none_there [] none = refl
+none_there (x ∷ xs) none = absurd (omega (arith, none))
+
+live_took : (spaces : List Workspace) → LawfulSpaces spaces → LiveTook spaces
+live_took spaces l w found = none_there w.turns ((l.each 0 w found).turns ∙ ap (λ (n : ℕ). if n == 0 then 0 else w.rebases + 1) (number_is spaces 0 w found))
 
 -- ---- locks
 
@@ -166,8 +135,12 @@ pub record LooksAt (rs : List Stored) (xs : List Session) (m : ℕ) (session : S
 view_seen : (rs : List Stored) (xs : List Session) (m : ℕ) (session : Session) (look : Look) (s : State) (w : Workspace) (view : View) (t : Table) (rows : List Row) → LooksAt rs xs m session look s w
     → table_of (parts_of rs).tables t.number ≡ Some t → (is_history view && not t.history) ≡ false → IsSeen (parts_of rs) look view t rows → rows ≡ view_shown s session w view t
 view_seen rs xs m session look s w Rows t rows at there kept are =
-    seen_read rs session t (look.period t) rows at.rules (subst (λ (version : ℕ). Shows rs version t (look.period t) rows) at.is.version are) s.durable w at.stands.stands at.home.found
-    ∙ ap (λ (period : Span). rows_in period (seen_from w session.stand) t) (at.is.period t ∙ ap (λ (n : ℕ). within n session t) at.stands.moment_is)
+    seen_read (parts_of rs) s.durable session.space session.stand look.home w t (look.period t) rows at.rules at.stands.stands (at.stands.lawful.durable.spaces.each session.space w at.home.found) at.home there
+    (subst (λ (r : Reading). IsRead (parts_of rs) look.home r t (look.period t) rows) (at.is.reading t) are)
+    ∙ ap (λ (period : Span). rows_in period (seen_from w session.stand t) t) (at.is.period t ∙ ap (λ (n : ℕ). within n session t) at.stands.moment_is)
+view_seen rs xs m session look s w Differences t rows at there kept are =
+    differences_seen (parts_of rs) s session.difference t rows at.stands.stands (live_took s.durable.spaces at.stands.lawful.durable.spaces)
+    (subst (λ (o : Option Difference). AreDifferent (parts_of rs) o t rows) at.is.difference are)
 view_seen rs xs m session look s w Conflicts t rows at there kept are =
     let c = conflicting_is rs s session.conflict w look.home at.stands.stands (subst (λ (n : ℕ). IsSpace (parts_of rs) s.durable n look.home w) (sym at.home.record_number) at.home) in
     conflicts_seen rs xs m s (conflicting_space (parts_of rs).spaces session.conflict look.home) c.workspace t look.family rows at.stands c.is at.is.family are ∙ ap (λ (v : Workspace). conflicts_shown s v t) (sym c.named)

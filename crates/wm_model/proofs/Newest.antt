@@ -7,7 +7,7 @@ use Rattle.wm_print.specs.Texts.{Answer, Refused}
 use Rattle.wm_spec.specs.declared.record.space.Space.{Space}
 use Rattle.wm_spec.specs.declared.record.stored.Stored.{Stored}
 use Rattle.wm_spec.specs.declared.record.table.Table.{Table}
-use Rattle.wm_state.specs.State.{State, Session, Workspace, Stand, Latest, At}
+use Rattle.wm_state.specs.State.{State, Session, Workspace, Stand, Latest, At, Dated}
 use Rattle.wm_model.specs.Planning.{StandsAt, Does, Stay, named}
 use Rattle.wm_model.specs.Step.{at_home, at_latest, at_newest, empty_period, no_table, not_latest, unless, unless_empty_period, versioning}
 use Rattle.wm_model.proofs.Doing.{does_nothing}
@@ -81,6 +81,12 @@ pub newest_elsewhere : (rs : List Stored) (xs : List Session) (m : ℕ) (session
     → space_of (parts_of rs).spaces session.space ≡ Some a → session.stand ≡ At making → Does rs xs m [] Stay not_latest (at_newest session name fault empty act)
 newest_elsewhere rs xs m session name fault empty act t a making g found at =
     does_nothing rs xs m not_latest (at_newest session name fault empty act) (λ s st. at_stand rs xs m session name fault empty act t a (At making) s g found at st)
+
+-- it stands on a date
+pub newest_dated : (rs : List Stored) (xs : List Session) (m : ℕ) (session : Session) (name : List ℕ) (fault : Table → Option Refusal) (empty : Bool) (act : Acts) (t : Table) (a : Space) (date : ℕ) → IsGood rs name fault t
+    → space_of (parts_of rs).spaces session.space ≡ Some a → session.stand ≡ Dated date → Does rs xs m [] Stay not_latest (at_newest session name fault empty act)
+newest_dated rs xs m session name fault empty act t a date g found at =
+    does_nothing rs xs m not_latest (at_newest session name fault empty act) (λ s st. at_stand rs xs m session name fault empty act t a (Dated date) s g found at st)
 
 -- the session stands at what is newest in its workspace
 pub record ComesTo (rs : List Stored) (session : Session) (name : List ℕ) (fault : Table → Option Refusal) (t : Table) (a : Space) : Type 0 where

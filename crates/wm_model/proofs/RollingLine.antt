@@ -21,7 +21,7 @@ use Rattle.wm_spec.specs.declared.record.stored.Stored.{Stored}
 use Rattle.wm_state.specs.Editing.{is_settled_below, restored_in, stays_at, stays_held}
 use Rattle.wm_state.specs.Firsts.{is_behind, is_saved_behind}
 use Rattle.wm_state.specs.Standing.{FieldsStand, SavepointFields, SpaceFields, Stands, fields_in, fields_of, fields_saved, locks_by_making, place_lock, saved_as, saved_fields, saved_in}
-use Rattle.wm_state.specs.State.{Durable, Savepoint, Session, Stand, State, Latest, At, Workspace, savepoint_made, savepoints_of, workspace_of}
+use Rattle.wm_state.specs.State.{Durable, Savepoint, Session, Stand, State, Latest, At, Dated, Workspace, savepoint_made, savepoints_of, workspace_of}
 use Rattle.wm_state.specs.declared.edit.Edit.TheVariants as edits
 use Rattle.wm_state.proofs.Apart.{ruled}
 use Rattle.wm_state.proofs.Frames.{savepoints_of-found}
@@ -181,6 +181,7 @@ module _ (rs : List Stored) (xs : List Session) (m : ℕ) (workspace name : List
     where
       by_stand : (o : Stand) → stands_behind w k (record y { stand = o }) ≡ sits_behind (parts_of rs) a.number x (record y { stand = o })
       by_stand Latest = ap (λ n. (y.space == n) && false) is.number
+      by_stand (Dated date) = ap (λ n. (y.space == n) && false) is.number
       by_stand (At making) = ap (λ n. (y.space == n) && would_go w k (At making)) is.number ∙ ap (λ b. (y.space == a.number) && b) (made_same making)
 
   session_part : refused_for (session_inside w.name) (first_session (stands_behind w k) s.sessions) ≡ refused_for (session_inside a.name) (first_session (sits_behind (parts_of rs) a.number x) s.sessions)

@@ -33,9 +33,9 @@ connect_full rs xs m name user rules new good full =
     does_nothing rs xs m most_sessions (connect name user) (λ s st. rw (open_still rs xs m s name false st new, good, ap (λ (ys : List Session). nat_le 256 (length ys)) (sym st.sessions_are) ∙ full) refl)
 
 pub does_connect : (rs : List Stored) (xs : List Session) (m : ℕ) (name user : List ℕ) → keep_rules (parts_of rs) ≡ true → is_some (session_of name xs) ≡ false → (is_name name && is_name user) ≡ true → nat_le 256 (length xs) ≡ false
-    → Does rs xs m [] (Open (record { name = name; user = user; space = 0; stand = Latest; period = None; conflict = None; resolve = None; freezes = []; locking = None })) Fine (connect name user)
+    → Does rs xs m [] (Open (record { name = name; user = user; space = 0; stand = Latest; period = None; conflict = None; resolve = None; freezes = []; locking = None; difference = None })) Fine (connect name user)
 does_connect rs xs m name user rules new good room =
-    does_seat rs xs m (Open (record { name = name; user = user; space = 0; stand = Latest; period = None; conflict = None; resolve = None; freezes = []; locking = None })) Fine (connect name user) tt
+    does_seat rs xs m (Open (record { name = name; user = user; space = 0; stand = Latest; period = None; conflict = None; resolve = None; freezes = []; locking = None; difference = None })) Fine (connect name user) tt
     (λ s st. rw (open_still rs xs m s name false st new, good, ap (λ (ys : List Session). nat_le 256 (length ys)) (sym st.sessions_are) ∙ room) refl)
 
 -- ---- DISCONNECT

@@ -11,14 +11,15 @@ use Rattle.wm_spec.specs.declared.record.stored.Stored.{Stored}
 use Rattle.wm_spec.specs.declared.record.table.Table.{Table}
 use Rattle.wm_select.specs.Query.{answer_of}
 use Rattle.wm_query_faults.specs.Asking.{query_fault}
+use Rattle.wm_outline.specs.Outline.{outline_of}
 use Rattle.wm_state.specs.State.{State, Session, Workspace, fresh_live, workspace_of}
 use Rattle.wm_state.proofs.Spaces.{space_is}
-use Rattle.wm_model.specs.Looking.{IsLook, lost_space}
+use Rattle.wm_model.specs.Looking.{IsLook}
 use Rattle.wm_model.specs.Planning.{StandsAt, Does, Stay, tables_in}
 use Rattle.wm_model.specs.Sources.{AreListed, Look}
-use Rattle.wm_model.specs.Step.{answer_rows, at_home, columns_in, empty_period, first_fault, lost_history, lost_source, no_history, no_table, no_workspace, refused_for, select, select_among, select_ready, sources_in, table_off, tables_of, unless, unless_empty_period, versioning}
+use Rattle.wm_model.specs.Step.{answer_rows, at_home, columns_in, empty_period, first_fault, first_lost, lost_history, lost_source, no_history, no_savepoint, no_table, no_workspace, refused_for, savepoint_lost, select, select_among, select_ready, sources_in, table_off, tables_of, unless, unless_empty_period, versioning, workspace_lost}
 use Rattle.wm_model.proofs.Doing.{does_nothing}
-use Rattle.wm_model.proofs.Looking.{lost_conflicts_same, sources_seen}
+use Rattle.wm_model.proofs.Looking.{savepoints_lost_same, sources_seen, spaces_lost_same}
 
 -- ---- refusals
 
@@ -55,57 +56,75 @@ selects_ready rs xs m session query empty s ready st = selects_among rs xs m ses
 abbrev in_home : Session → Query → Bool → List Table → State → Workspace → State × Answer
 in_home session query empty tables s w = unless_empty_period empty s (s, answer_rows (answer_of query (sources_in s session w tables query.sources)))
 
+-- what its sources ask for that is not there, by the records
+abbrev pub space_lost : List Stored → Session → Query → Option (List ℕ)
+space_lost rs session query = first_lost (workspace_lost (outline_of (parts_of rs) [] 0) session) query.sources
+
+abbrev pub point_lost : List Stored → Session → Query → Option (List ℕ)
+point_lost rs session query = first_lost (savepoint_lost (outline_of (parts_of rs) [] 0) session) query.sources
+
 -- what the query is refused for
-pub record Faults (rs : List Stored) (session : Session) (query : Query) (fault : Option Refusal) (history space : Option (List ℕ)) : Type 0 where
+pub record Faults (rs : List Stored) (session : Session) (query : Query) (fault : Option Refusal) (history space savepoint : Option (List ℕ)) : Type 0 where
   pub query_is : query_fault (columns_in (tables_in rs) query.sources) query ≡ fault
   pub history_is : lost_history (tables_in rs) query.sources ≡ history
-  pub space_is : lost_space (parts_of rs).spaces session query.sources ≡ space
+  pub space_is : space_lost rs session query ≡ space
+  pub savepoint_is : point_lost rs session query ≡ savepoint
 
 -- the first of it is told
-abbrev first_told : Option Refusal → Option (List ℕ) → Option (List ℕ) → Option Refusal
-first_told fault history space = first_fault (fault ∷ refused_for no_history history ∷ refused_for no_workspace space ∷ [])
+abbrev first_told : Option Refusal → Option (List ℕ) → Option (List ℕ) → Option (List ℕ) → Option Refusal
+first_told fault history space savepoint = first_fault (fault ∷ refused_for no_history history ∷ refused_for no_workspace space ∷ refused_for no_savepoint savepoint ∷ [])
 
-comes_home : (rs : List Stored) (xs : List Session) (m : ℕ) (session : Session) (query : Query) (empty : Bool) (fault : Option Refusal) (history space : Option (List ℕ)) (s : State) → AreReady rs query
-    → Faults rs session query fault history space → StandsAt rs xs m s
-    → select session query empty s ≡ unless (first_told fault history space) s (at_home s session (in_home session query empty (tables_in rs) s))
-comes_home rs xs m session query empty fault history space s ready faults st =
+comes_home : (rs : List Stored) (xs : List Session) (m : ℕ) (session : Session) (query : Query) (empty : Bool) (fault : Option Refusal) (history space savepoint : Option (List ℕ)) (s : State) → AreReady rs query
+    → Faults rs session query fault history space savepoint → StandsAt rs xs m s
+    → select session query empty s ≡ unless (first_told fault history space savepoint) s (at_home s session (in_home session query empty (tables_in rs) s))
+comes_home rs xs m session query empty fault history space savepoint s ready faults st =
     selects_ready rs xs m session query empty s ready st
     ∙ ap (λ (o : Option Refusal). unless o s (at_home s session (in_home session query empty (tables_in rs) s)))
-    (ap (first_told (query_fault (columns_in (tables_in rs) query.sources) query) (lost_history (tables_in rs) query.sources)) (lost_conflicts_same rs s session query.sources st.stands ∙ faults.space_is)
-    ∙ ap (λ (o : Option (List ℕ)). first_told (query_fault (columns_in (tables_in rs) query.sources) query) o space) faults.history_is
-    ∙ ap (λ (o : Option Refusal). first_told o history space) faults.query_is)
+    (λ i. first_told (faults.query_is i) (faults.history_is i) ((spaces_lost_same rs s session query.sources st.stands ∙ faults.space_is) i) ((savepoints_lost_same rs s session query.sources st.stands ∙ faults.savepoint_is) i))
 
 -- the query names or compares what it may not
 pub select_faulty : (rs : List Stored) (xs : List Session) (m : ℕ) (session : Session) (query : Query) (empty : Bool) (refusal : Refusal) → AreReady rs query
     → query_fault (columns_in (tables_in rs) query.sources) query ≡ Some refusal → Does rs xs m [] Stay (Refused refusal) (select session query empty)
 select_faulty rs xs m session query empty refusal ready bad =
     does_nothing rs xs m (Refused refusal) (select session query empty)
-    (λ s st. comes_home rs xs m session query empty (Some refusal) (lost_history (tables_in rs) query.sources) (lost_space (parts_of rs).spaces session query.sources) s ready (record { query_is = bad; history_is = refl; space_is = refl }) st)
+    (λ s st.
+    comes_home rs xs m session query empty (Some refusal) (lost_history (tables_in rs) query.sources) (space_lost rs session query) (point_lost rs session query) s ready
+    (record { query_is = bad; history_is = refl; space_is = refl; savepoint_is = refl }) st)
 
 -- a table keeps no history
 pub select_historyless : (rs : List Stored) (xs : List Session) (m : ℕ) (session : Session) (query : Query) (empty : Bool) (name : List ℕ) → AreReady rs query → query_fault (columns_in (tables_in rs) query.sources) query ≡ None
     → lost_history (tables_in rs) query.sources ≡ Some name → Does rs xs m [] Stay (no_history name) (select session query empty)
 select_historyless rs xs m session query empty name ready good lost =
     does_nothing rs xs m (no_history name) (select session query empty)
-    (λ s st. comes_home rs xs m session query empty None (Some name) (lost_space (parts_of rs).spaces session query.sources) s ready (record { query_is = good; history_is = lost; space_is = refl }) st)
+    (λ s st.
+    comes_home rs xs m session query empty None (Some name) (space_lost rs session query) (point_lost rs session query) s ready
+    (record { query_is = good; history_is = lost; space_is = refl; savepoint_is = refl }) st)
 
--- the workspace of conflicts is not there
-pub select_spaceless : (rs : List Stored) (xs : List Session) (m : ℕ) (session : Session) (query : Query) (empty : Bool) (name : List ℕ) → AreReady rs query → Faults rs session query None None (Some name)
-    → Does rs xs m [] Stay (no_workspace name) (select session query empty)
-select_spaceless rs xs m session query empty name ready faults =
-    does_nothing rs xs m (no_workspace name) (select session query empty) (λ s st. comes_home rs xs m session query empty None None (Some name) s ready faults st)
+-- a workspace that a view asks for is not there
+pub select_spaceless : (rs : List Stored) (xs : List Session) (m : ℕ) (session : Session) (query : Query) (empty : Bool) (name : List ℕ) → AreReady rs query → query_fault (columns_in (tables_in rs) query.sources) query ≡ None
+    → lost_history (tables_in rs) query.sources ≡ None → space_lost rs session query ≡ Some name → Does rs xs m [] Stay (no_workspace name) (select session query empty)
+select_spaceless rs xs m session query empty name ready good kept lost =
+    does_nothing rs xs m (no_workspace name) (select session query empty)
+    (λ s st.
+    comes_home rs xs m session query empty None None (Some name) (point_lost rs session query) s ready (record { query_is = good; history_is = kept; space_is = lost; savepoint_is = refl }) st)
+
+-- a savepoint is not
+pub select_pointless : (rs : List Stored) (xs : List Session) (m : ℕ) (session : Session) (query : Query) (empty : Bool) (name : List ℕ) → AreReady rs query → Faults rs session query None None None (Some name)
+    → Does rs xs m [] Stay (no_savepoint name) (select session query empty)
+select_pointless rs xs m session query empty name ready faults =
+    does_nothing rs xs m (no_savepoint name) (select session query empty) (λ s st. comes_home rs xs m session query empty None None None (Some name) s ready faults st)
 
 -- ---- the workspace
 
 -- the query is in order
 pub record IsFine (rs : List Stored) (session : Session) (query : Query) : Type 0 where
   pub ready : AreReady rs query
-  pub good : Faults rs session query None None None
+  pub good : Faults rs session query None None None None
 
 comes_in : (rs : List Stored) (xs : List Session) (m : ℕ) (session : Session) (query : Query) (empty : Bool) (w : Workspace) (s : State) → IsFine rs session query → workspace_of s.durable.spaces session.space ≡ Some w → StandsAt rs xs m s
     → select session query empty s ≡ in_home session query empty (tables_in rs) s w
 comes_in rs xs m session query empty w s fine found st =
-    comes_home rs xs m session query empty None None None s fine.ready fine.good st ∙ ap (λ (o : Option Workspace). in_home session query empty (tables_in rs) s (unwrap_or o fresh_live)) found
+    comes_home rs xs m session query empty None None None None s fine.ready fine.good st ∙ ap (λ (o : Option Workspace). in_home session query empty (tables_in rs) s (unwrap_or o fresh_live)) found
 
 -- a period of the query is empty
 pub select_empty : (rs : List Stored) (xs : List Session) (m : ℕ) (session : Session) (query : Query) (empty : Bool) (a : Space) → IsFine rs session query → space_of (parts_of rs).spaces session.space ≡ Some a → empty ≡ true

@@ -8,7 +8,7 @@ use Rattle.wm_graph.specs.Rules.{differ}
 use Rattle.wm_making.specs.Rows.{is_filled}
 use Rattle.wm_model.specs.Step.{decisions_of, step}
 use Rattle.wm_spec.specs.Lists.{Alike, Entry, Told, told_of}
-use Rattle.wm_state.specs.State.{Decision, Durable, Savepoint, Session, Stand, Latest, At, State, Turn, Workspace, begin, content, fresh, kept, savepoint_made, turn_of, workspace_of}
+use Rattle.wm_state.specs.State.{Decision, Durable, Savepoint, Session, Stand, Latest, At, Dated, State, Turn, Workspace, begin, content, fresh, kept, savepoint_made, turn_of, workspace_of}
 
 -- ---- one workspace
 
@@ -36,13 +36,14 @@ abbrev pub Rises : Savepoint → Savepoint → Type 0
 Rises a b = a.place ≤ b.place → a.log_length ≤ b.log_length
 
 -- a workspace holds what it was born with and its log do; P, Q: by name, by making, or however a savepoint is looked for. Its first turn
--- took what it was born with, and its last one its base
+-- took what it was born with, and its last one its base. LIVE was born with nothing
 pub record LawfulSpace (w : Workspace) : Type 0 where
   pub latest : Alike (content w) (whole w)
   pub marks : (P : Savepoint → Bool) (k : Savepoint) → find P w.savepoints ≡ Some k → LawfulMark w k
   pub rises : (P Q : Savepoint → Bool) (a b : Savepoint) → find P w.savepoints ≡ Some a → find Q w.savepoints ≡ Some b → Rises a b
   pub first : (t : Turn) → turn_of w 0 ≡ Some t → t.content ≡ w.lists.at_birth
   pub last : (t : Turn) → turn_of w w.rebases ≡ Some t → (t.content ≡ w.lists.base) × (t.log_length ≡ w.from)
+  pub live : w.number ≡ 0 → w.lists.at_birth ≡ []
   pub turns : length w.turns ≡ (if w.number == 0 then 0 else w.rebases + 1)
 
 -- ---- a workspace and its parent
@@ -118,6 +119,7 @@ staged_in xs = flat_map (λ (x : Session). flat_map staged_of (decisions_of x)) 
 abbrev pub IsAt : Workspace → Stand → Type 0
 IsAt w Latest = Unit {0}
 IsAt w (At making) = is_some (savepoint_made making w.savepoints) ≡ true
+IsAt w (Dated date) = Unit {0}
 
 -- where one stands is there
 pub record IsPlace (spaces : List Workspace) (n : ℕ) (stand : Stand) : Type 0 where

@@ -1,5 +1,5 @@
 -- What a plan over the records of a store says that a line does and answers.
-use Rattle.std.specs.Prelude.{◌≡◌, ℕ, List, Option, Some}
+use Rattle.std.specs.Prelude.{◌≡◌, ℕ, List, Option, None, Some}
 use Rattle.std.specs.Option.{option_map_or}
 use Rattle.std.specs.List.{All}
 use Rattle.wm_decided.specs.Staged.{AreStaged, IsStaged, IsStagedResolve}
@@ -7,7 +7,7 @@ use Rattle.wm_graph.specs.Parts.{Parts, parts_of}
 use Rattle.wm_print.specs.Texts.{Answer}
 use Rattle.wm_spec.specs.declared.record.stored.Stored.{Stored}
 use Rattle.wm_state.specs.Drafts.{CanDraft}
-use Rattle.wm_state.specs.State.{State, Session, Stand, Latest, At, table_named}
+use Rattle.wm_state.specs.State.{State, Session, table_named}
 use Rattle.wm_model.specs.Lawful.{LawfulState}
 use Rattle.wm_model.specs.Step.{Setting, session_of}
 pub use Rattle.wm_model.specs.Seating.{Seating, Stay, Open, Close, Set, Thaw, seated, thawed, planned}
@@ -62,7 +62,8 @@ tables_in rs = by_number (parts_of rs).tables
 abbrev pub named : List Stored → List ℕ → Option Table
 named rs name = table_named name (tables_in rs)
 
--- the version that is read by one who stands so in a workspace: at a savepoint that is not there it is 0, the number of none
-abbrev pub version_read : Parts → ℕ → Stand → ℕ
-version_read p n Latest = latest p n
-version_read p n (At making) = option_map_or (λ (x : Savepoint). x.version) (saved_as p n making) 0
+-- the version that is read at what is newest in a workspace, or at the savepoint of a making: where that is not there it is 0, the number
+-- of none
+abbrev pub version_read : Parts → ℕ → Option ℕ → ℕ
+version_read p n None = latest p n
+version_read p n (Some making) = option_map_or (λ (x : Savepoint). x.version) (saved_as p n making) 0

@@ -10,7 +10,7 @@ use Rattle.wm_state.specs.Editing.{number_limit}
 use Rattle.wm_state.specs.Points.{HasRoom, implicit_of, next_place_at}
 use Rattle.wm_state.specs.Standing.{space_after}
 use Rattle.wm_state.specs.State.{Session}
-use Rattle.wm_model.specs.Step.{is_name, names_no_savepoint, names_no_workspace}
+use Rattle.wm_model.specs.Step.{is_dated, is_name, names_no_savepoint, names_no_workspace}
 
 -- for a savepoint: the names are good, and the workspace is there
 pub record SavesIn (rs : List Stored) (workspace name : List ℕ) (a : Space) : Type 0 where
@@ -33,9 +33,10 @@ pub record BearsIn (rs : List Stored) (session : Session) (name : List ℕ) (a :
   pub new : find (λ (r : Space). bytes_eq name r.name) (parts_of rs).spaces ≡ None
   pub found : space_of (parts_of rs).spaces session.space ≡ Some a
 
--- there may be a workspace more, and a savepoint more in the session's
+-- the session does not stand on a date, and there may be a workspace more, and a savepoint more in the session's
 pub record BearsRoomy (rs : List Stored) (session : Session) (name : List ℕ) (a : Space) : Type 0 where
   pub bears : BearsIn rs session name a
+  pub undated : is_dated session.stand ≡ false
   pub few : nat_le 1024 (length (parts_of rs).spaces) ≡ false
   pub room : HasRoom (parts_of rs) a (implicit_of a)
 

@@ -5,6 +5,9 @@ pub mod Naming
 pub mod Sessions
 pub mod Tables
 pub mod Periods
+pub mod Places
+pub mod Plans
+pub mod Comparing
 pub mod Querying
 pub mod Rows
 pub mod Savepoints
@@ -12,13 +15,12 @@ pub mod Workspaces
 pub mod Undoing
 pub mod Merging
 pub mod Resolving
-pub mod Places
-pub mod Plans
 pub mod Access
 pub mod Freezing
 pub mod Faulting
 pub mod Locks
 pub mod Locking
+pub mod Dating
 pub mod Calling
 use Rattle.std.specs.Prelude.{ℕ, List, not, if◌then◌else◌, Option, None, Some, Result, Ok, Err}
 use Rattle.std.specs.Str.{is_utf8}
@@ -27,7 +29,6 @@ use Rattle.wm_syntax.specs.Trees.{Line, Connect, Disconnect, At as AtMoment, Run
 use Rattle.wm_grammar.specs.Calls.{procedure_of}
 use Rattle.wm_grammar.specs.Parsed.{Bad, Syntax, Literal, parsed}
 use Rattle.wm_calls.specs.Empty.{has_empty_period}
-use Rattle.wm_calls.specs.Later.{is_later}
 use Rattle.wm_timed.specs.Timed.{timed}
 use Rattle.wm_reader.specs.Reading.{is_remark}
 use Rattle.wm_outline.specs.Outline.{outline}
@@ -38,16 +39,16 @@ use Rattle.wm_state.specs.State.{Session}
 pub use Rattle.wm_state.specs.Editing.{counter_limit, number_limit, line_work, implicit_front, implicit_name, saved_at, place_behind, saved, save_in, child_of, born, bear_in, written_all}
 pub use Rattle.wm_print.specs.Texts.{Answer, answer_text}
 use Rattle.wm_print.specs.Texts.{Nothing}
-pub use Rattle.wm_model.specs.Step.Refusing.{not_built, too_long_line, no_text, syntax, bad_literal, no_session, session_there, bad_name, long_name, mistyped, reserved_name, no_parent, frozen, already_frozen, not_frozen, session_inside, has_child, dependent_child, rebased_since, resolve_open, no_resolve, locked, no_table, table_there, versioning, no_key, no_workspace, workspace_there, no_savepoint, no_history, savepoint_there, not_latest, moment_back, key_there, empty_period, in_conflict, change_limit, most_workspaces, most_savepoints, most_tables, most_rows, most_sessions, out_of_range, at_its_end, refusal_of, refused_if, refused_for, first_fault, unless, unless_mistyped, unless_empty_period}
+pub use Rattle.wm_model.specs.Step.Refusing.{not_built, too_long_line, no_text, syntax, bad_literal, no_session, session_there, bad_name, long_name, mistyped, reserved_name, no_parent, frozen, already_frozen, not_frozen, session_inside, has_child, dependent_child, rebased_since, resolve_open, no_resolve, locked, no_table, table_there, versioning, no_key, no_workspace, workspace_there, miscounted, no_savepoint, no_history, savepoint_there, not_latest, moment_back, date_before, key_there, empty_period, in_conflict, change_limit, most_workspaces, most_savepoints, most_tables, most_rows, most_sessions, out_of_range, at_its_end, refusal_of, refused_if, refused_for, first_fault, unless, unless_mistyped, unless_empty_period}
 pub use Rattle.wm_model.specs.Step.Counting.{durably_by, durably}
 pub use Rattle.wm_model.specs.Step.Naming.{is_name, names_no_workspace, latest, names_no_savepoint, session_of, with_table, with_named, home_of, at_home}
 pub use Rattle.wm_model.specs.Step.Sessions.{closed, Setting, with_decisions, with_setting, altered, connect, disconnect, set_moment}
 pub use Rattle.wm_model.specs.Step.Tables.{is_full, create, enable}
 pub use Rattle.wm_model.specs.Step.Periods.{within, told_period, set_period, set_valid_time}
-pub use Rattle.wm_model.specs.Step.Querying.{rows_in, table_asked, lost_source, tables_of, table_off, source_name, columns_in, lacks_history, lost_history, asks_conflicts, lost_choice, lost_conflicts, conflicting, conflicts_shown, space_name, view_shown, shown_by, sources_in, answer_rows, selecting_faults, select_ready, select_from, select_among, select}
+pub use Rattle.wm_model.specs.Step.Querying.{rows_in, table_asked, lost_source, tables_of, table_off, source_name, columns_in, lacks_history, lost_history, workspace_lost, savepoint_lost, first_lost, conflicting, conflicts_shown, space_name, sheets_in, sheets_of, viewpoint_name, differences_shown, view_shown, shown_by, sources_in, answer_rows, selecting_faults, select_ready, select_from, select_among, select}
 pub use Rattle.wm_model.specs.Step.Rows.{at_latest, at_newest, write_all, new_period, taken, add_to, add_found, insert, write_ascending, with_rows, clash_at, first_clash, move_all, change_all, replace_all, update, delete}
 pub use Rattle.wm_model.specs.Step.Savepoints.{save, saving_faults, create_savepoint, goto_savepoint}
-pub use Rattle.wm_model.specs.Step.Workspaces.{bear, counting_faults, bearing_faults, create_workspace, goto_workspace, set_conflict_workspace}
+pub use Rattle.wm_model.specs.Step.Workspaces.{bear, counting_faults, is_dated, bearing_faults, create_workspace, goto_workspace, set_conflict_workspace}
 pub use Rattle.wm_model.specs.Step.Undoing.{first_session, first_name, is_child, resolves, resolving_fault, would_go, stands_behind, settles_beyond, decides_beyond, depends, rolling_faults, is_still, roll_back, rollback_to, stands_in, removing_faults, removed, remove, remove_workspace}
 pub use Rattle.wm_model.specs.Step.Merging.{parent_in, pending, is_quiet, sides, gained_of, conflict_told, conflict_fault, refreshing_faults, refreshed, refresh, refresh_workspace, Asked, is_even, leaving_faults, keeping_faults, merge_claim, merge_lock_fault, merging_faults, merged, merged_with, merged_as, longer_log, freed_by, merge, merge_workspace}
 pub use Rattle.wm_model.specs.Step.Resolving.{set_of, begin_resolve, has_open, unresolved_fault, rollback_resolve, decide, decide_on, resolve_conflicts, resolved, commit, decisions_of, commit_resolve}
@@ -58,6 +59,8 @@ pub use Rattle.wm_model.specs.Step.Freezing.{mode_word, hold_worded, writer_give
 pub use Rattle.wm_model.specs.Step.Faulting.{unkeyed_fault, fault_around}
 pub use Rattle.wm_model.specs.Step.Locks.{cells_of, Claim, claim_of, is_child_of, has_parent, bars_claim, barring_at, barring, name_numbered, period_told, locked_told, lock_fault, Holder, is_held_by, spans_held, lock_over, parts_at, lock_parts, parts_locked, locked_by, has_locks, unlock_edits}
 pub use Rattle.wm_model.specs.Step.Locking.{mode_in, mode_given, set_locking_plan, Asking, workspace_asked, asking_faults, for_space, for_rows, cells_in, lock_edits, locks_spent, locking, lock_rows_plan, content_numbered, rows_meant, is_freed, unlocking_spent, unlocking, unlock_rows_plan}
+pub use Rattle.wm_model.specs.Step.Comparing.{lost_workspace, has_savepoint, lost_savepoint, lost_workspaces, lost_savepoints, savepoint_meant, viewpoint_given, difference_given, set_difference_plan}
+pub use Rattle.wm_model.specs.Step.Dating.{early_fault, goto_date_plan}
 pub use Rattle.wm_model.specs.Step.Calling.{keep_in, keep_given, merge_asked, given, newly_named, unless_latest, keeps_history, readiness_given, call, call_with}
 
 -- what a statement does and answers, whatever is frozen; whether a period in it is empty is told to each statement that may be refused for it
@@ -90,9 +93,9 @@ timed_line moment (Disconnect name) = Disconnect name
 timed_line moment (AtMoment instant) = AtMoment instant
 timed_line moment (Run name statement) = Run name (timed moment statement)
 
--- a line of the grammar that speaks of nothing that comes later is run; where the line is wrong is told
+-- a line of the grammar is run; where the line is wrong is told
 abbrev pub run_parsed : Result Line Bad → State → State × Answer
-run_parsed (Ok line) s = if is_later line then (s, not_built) else run_line (timed_line s.moment line) s
+run_parsed (Ok line) s = run_line (timed_line s.moment line) s
 run_parsed (Err (Syntax column)) s = (s, syntax column)
 run_parsed (Err (Literal column)) s = (s, bad_literal column)
 

@@ -13,7 +13,7 @@ use Rattle.wm_spec.specs.declared.record.trace.Trace.{Trace}
 use Rattle.wm_state.specs.Editing.{stays_held}
 use Rattle.wm_state.specs.Firsts.{first_recorded, is_behind, is_child_from, is_saved_behind}
 use Rattle.wm_state.specs.Standing.{saved_as, saved_in}
-use Rattle.wm_state.specs.State.{Session, Stand, Latest, At}
+use Rattle.wm_state.specs.State.{Session, Stand, Latest, At, Dated}
 use Rattle.wm_model.specs.Step.{decides_beyond, dependent_child, first_fault, first_session, has_child, rebased_since, refused_for, refused_if, resolve_open, resolves, session_inside}
 
 -- the name of the first child, by number, that is one
@@ -27,6 +27,7 @@ sits_behind p n x session = (session.space == n) && at session.stand
     at : Stand → Bool
     at Latest = false
     at (At making) = option_map_or (is_behind x.place x.log_length) (saved_as p n making) false
+    at (Dated date) = false
 
 -- a mark of the workspace of a number is beyond a length of its parent's log
 abbrev pub is_marked_beyond : Parts → ℕ → ℕ → Bool

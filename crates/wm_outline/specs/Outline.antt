@@ -1,5 +1,5 @@
--- A state without what its lists hold: what a plan looks at before it asks for rows or changes. It is told of a state, and of the
--- records that stand for one.
+-- A state without what stands in its workspaces: what a plan looks at before it asks for rows or changes. It is told of a state, and
+-- of the records that stand for one.
 use Rattle.std.specs.Prelude.{ℕ, zero, suc, List, [], ◌∷◌, ◌++◌, map, slice_get, Option, None, Some}
 use Rattle.std.specs.Option.{option_map, option_map_or}
 use Rattle.wm_graph.specs.Parts.{Parts, space_of}

@@ -11,9 +11,9 @@ pub mod net;
 pub mod own;
 pub mod path;
 mod settled;
-mod sides;
+pub mod sides;
 mod touched;
-mod walk;
+pub mod walk;
 
 pub use crate::own::OwnKey;
 pub use crate::sides::SideStamps;

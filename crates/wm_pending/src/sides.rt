@@ -24,7 +24,7 @@ pub struct SideStamps {
 }
 
 /// Whether one row stands at two instants, or none does.
-fn stand_alike(one: Option<u64>, other: Option<u64>) -> bool
+pub fn stand_alike(one: Option<u64>, other: Option<u64>) -> bool
     ensures { result ≡ same_stamp one other }
 {
     match (one, other) {

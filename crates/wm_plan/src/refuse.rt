@@ -1,7 +1,7 @@
 //! The refusals of lines.
 ghost use Rattle.std.specs.Prelude.{◌≡◌, IfOk};
 ghost use Rattle.wm_plan.specs.Views.{answer_view};
-ghost use Rattle.wm_model.specs.Step.{already_frozen, at_its_end, bad_literal, bad_name, change_limit, dependent_child, empty_period, frozen, has_child, in_conflict, key_there, locked, long_name, mistyped, moment_back, most_rows, most_savepoints, most_sessions, most_tables, most_workspaces, no_history, no_key, no_parent, no_resolve, no_savepoint, no_session, no_table, no_workspace, no_text, not_built, not_frozen, not_latest, out_of_range, rebased_since, reserved_name, resolve_open, savepoint_there, session_inside, session_there, syntax, table_there, too_long_line, versioning, workspace_there};
+ghost use Rattle.wm_model.specs.Step.{already_frozen, at_its_end, bad_literal, bad_name, change_limit, date_before, dependent_child, empty_period, frozen, has_child, in_conflict, key_there, locked, long_name, miscounted, mistyped, moment_back, most_rows, most_savepoints, most_sessions, most_tables, most_workspaces, no_history, no_key, no_parent, no_resolve, no_savepoint, no_session, no_table, no_workspace, no_text, not_built, not_frozen, not_latest, out_of_range, rebased_since, reserved_name, resolve_open, savepoint_there, session_inside, session_there, syntax, table_there, too_long_line, versioning, workspace_there};
 
 use crate::answer::Answer;
 use std::alloc::Global;
@@ -143,6 +143,13 @@ pub fn workspace_there(name: Name) -> Answer
     Answer::Refused(Refusal::Space(SpaceRefusal::Wm021(name)))
 }
 
+/// That so many arguments are asked for.
+pub fn miscounted(count: u64) -> Answer
+    ensures { answer_view result ≡ miscounted count }
+{
+    Answer::Refused(Refusal::Form(FormRefusal::Wm014(count)))
+}
+
 /// That the workspace has no savepoint of this name.
 pub fn no_savepoint(name: Name) -> Answer
     ensures { answer_view result ≡ no_savepoint name }
@@ -225,6 +232,13 @@ pub fn not_latest() -> Answer
     ensures { answer_view result ≡ not_latest }
 {
     Answer::Refused(Refusal::Space(SpaceRefusal::Wm030))
+}
+
+/// That a date is before the birth of the workspace.
+pub fn date_before(workspace: Name, birth: Instant) -> Answer
+    ensures { answer_view result ≡ date_before workspace birth }
+{
+    Answer::Refused(Refusal::Space(SpaceRefusal::Wm032(workspace, birth)))
 }
 
 /// That the moment is later than one that is to be set.

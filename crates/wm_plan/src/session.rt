@@ -13,6 +13,7 @@ use std::alloc::Global;
 use std::marker::Model;
 use wm_base::{Memory, Name, Period};
 use wm_decided::decision::{Decision, Resolve};
+use wm_decided::viewpoint::Difference;
 use wm_spec::record::LockMode;
 
 /// Where a session stands in its workspace.
@@ -22,6 +23,8 @@ pub enum Stand {
     Latest,
     /// At the savepoint of this making.
     At(u64),
+    /// On this date, in seconds.
+    Dated(u64),
 }
 
 /// What is set of a session.
@@ -43,6 +46,8 @@ pub enum Setting {
     Freeze(u32),
     /// The mode in which its changes lock what they change, or that they do not.
     Lock(Option<LockMode>),
+    /// The points that it compares.
+    Compare(Difference),
 }
 
 /// Somebody who is connected, under the name that lines begin with.
@@ -63,6 +68,8 @@ pub struct Session {
     freezes: Vec<u32>,
     /// The mode in which its changes lock what they change, where they do.
     locking: Option<LockMode>,
+    /// The points that were set for it to compare.
+    difference: Option<Difference>,
 }
 
 impl Model for Session {
@@ -73,18 +80,19 @@ impl Model for Session {
 
     ghost Value = { SessionState };
 
-    ghost view = { λ s. record { name = s.name; user = s.user; space = s.space; stand = stand_view s.stand; period = s.period; conflict = s.conflict; resolve = s.resolve; freezes = s.freezes.items; locking = s.locking } };
+    ghost view = { λ s. record { name = s.name; user = s.user; space = s.space; stand = stand_view s.stand; period = s.period; conflict = s.conflict; resolve = s.resolve; freezes = s.freezes.items; locking = s.locking; difference = s.difference } };
 
     ghost invariant = { λ s. is_short s.user ≡ true };
 }
 
 impl Session {
     /// A session of this name for this user, which stands in LIVE at what is newest, for which neither a period nor a
-    /// workspace of conflicts is set, and which has no resolve open, froze no workspace and locks nothing that it changes.
+    /// workspace of conflicts is set, and which has no resolve open, froze no workspace, locks nothing that it changes and
+    /// compares no points.
     pub fn new(alloc: Global, name: Name, user: Name) -> Session
         // An entry of a log has room for the user.
         requires { is_short user ≡ true }
-        ensures { result ≡ record { name = name; user = user; space = 0; stand = Latest; period = None; conflict = None; resolve = None; freezes = []; locking = None } }
+        ensures { result ≡ record { name = name; user = user; space = 0; stand = Latest; period = None; conflict = None; resolve = None; freezes = []; locking = None; difference = None } }
     {
         Session {
             name,
@@ -96,6 +104,7 @@ impl Session {
             resolve: None,
             freezes: Vec::new(alloc),
             locking: None,
+            difference: None,
         }
     }
 
@@ -145,6 +154,13 @@ impl Session {
         ensures { result ≡ self.now.locking }
     {
         self.locking
+    }
+
+    /// The points that were set for it to compare.
+    pub fn difference(&self) -> Option<&Difference>
+        ensures { option_copied result ≡ self.now.difference }
+    {
+        self.difference.as_ref()
     }
 
     /// Whether it froze the workspace of a number for itself alone.
@@ -200,6 +216,7 @@ impl Session {
             Setting::End => self.resolve = None,
             Setting::Freeze(space) => self.freezes.insert(0, *space)?,
             Setting::Lock(mode) => self.locking = *mode,
+            Setting::Compare(points) => self.difference = Some(points.copy(alloc)?),
         }
         Ok(())
     }

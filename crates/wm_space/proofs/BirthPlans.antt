@@ -1,10 +1,10 @@
 -- What is told of the plan by which a workspace is born.
-use Rattle.std.proofs.Common.{◌≡◌, ℕ, ◌+◌, ◌<◌, ◌≤◌, nat_lt, true, false, List, [], ◌∷◌, Option, Result, Ok, Err, IfOk, sym, ap, ◌∙◌, arith}
+use Rattle.std.proofs.Common.{◌≡◌, ℕ, ◌+◌, ◌<◌, ◌≤◌, nat_lt, true, false, List, [], ◌∷◌, Option, None, Some, Result, Ok, Err, IfOk, sym, ap, ◌∙◌, arith}
 use Rattle.wm_base.specs.declared.memory.Memory.{Memory}
 use Rattle.wm_graph.specs.Parts.{parts_of}
 use Rattle.wm_model.specs.Planning.{Does, IsOpen, Stay}
 use Rattle.wm_model.specs.Saving.{BearsRoomy, MayBearIn}
-use Rattle.wm_model.specs.Step.{create_workspace, number_limit}
+use Rattle.wm_model.specs.Step.{create_workspace, is_dated, number_limit}
 use Rattle.wm_print.specs.Texts.{Fine}
 use Rattle.wm_spec.specs.declared.record.space.Space.{Space}
 use Rattle.wm_spec.specs.declared.record.stored.Stored.{Stored}
@@ -29,6 +29,11 @@ number_left k n limit is most le = grind (arith, is, most, le)
 -- or above all such
 pub number_end : (k n limit : ℕ) → n ≡ k → limit ≡ 4294967295 → limit < n → nat_lt number_limit k ≡ true
 number_end k n limit is most lt = grind (arith, is, most, lt)
+
+-- one who stands where an edit may make a workspace stands on no date
+pub undated : (at : Option ℕ) (stand : Stand) → stand_of at ≡ stand → is_dated stand ≡ false
+undated None stand is = ap is_dated (sym is)
+undated (Some making) stand is = ap is_dated (sym is)
 
 -- nothing is at its end
 pub may_bear_in : (rs : List Stored) (session : Session) (name : List ℕ) (a : Space) (stand : Stand) → BearsRoomy rs session name a → stand ≡ session.stand → nat_lt number_limit (next_place_at a stand) ≡ false

@@ -1,6 +1,8 @@
 pub mod BirthPlans
 pub mod Calling
+pub mod TwoPoints
 pub mod Creating
+pub mod Dating
 pub mod Ended
 pub mod Lengths
 pub mod LocksHeld

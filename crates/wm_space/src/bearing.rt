@@ -1,17 +1,20 @@
 //! CreateWorkspace.
-ghost use Rattle.std.specs.Prelude.{◌≡◌, ◌<◌, nat_lt, is_some, ℕ, List, true, false, IfOk};
+ghost use Rattle.std.specs.Prelude.{◌≡◌, ◌<◌, nat_lt, is_some, ℕ, List, None, true, false, IfOk};
+ghost use Rattle.std.specs.List.{find};
+ghost use Rattle.std.specs.Str.{bytes_eq};
 ghost use Rattle.wm_base.specs.declared.instant.TheConstants.{END};
 ghost use Rattle.wm_plan.specs.Forks.{AreForks};
 ghost use Rattle.wm_plan.specs.Idle.{Idles};
 ghost use Rattle.wm_plan.specs.Planning.{DoesIt};
-ghost use Rattle.wm_plan.specs.Stands.{stand_view};
 ghost use Rattle.wm_graph.specs.Parts.{parts_of};
 ghost use Rattle.wm_graph.specs.Rules.{keep_rules};
 ghost use Rattle.wm_model.specs.Planning.{IsOpen};
 ghost use Rattle.wm_model.specs.Saving.{BearsIn, BearsRoomy, MayBearIn};
 ghost use Rattle.wm_model.specs.Step.{create_workspace, is_name, names_no_workspace, number_limit};
 ghost use Rattle.wm_state.specs.Editing.{stand_of};
-ghost use Rattle.wm_state.specs.Points.{next_place_at, point_at};
+ghost use Rattle.wm_spec.specs.declared.record.savepoint.Savepoint.{Savepoint as OneSavepoint};
+ghost use Rattle.wm_state.specs.Points.{implicit_of, next_place_at, point_at};
+ghost use Rattle.wm_state.specs.Standing.{saved_in};
 ghost use Rattle.wm_state.specs.State.{Session as SessionState};
 
 use crate::ending::ended;
@@ -23,7 +26,7 @@ use wm_image::Image;
 use wm_plan::answer::Answer;
 use wm_plan::planned::Planned;
 use wm_plan::refuse::{
-    most_savepoints, most_workspaces, not_built, savepoint_there, workspace_there,
+    most_savepoints, most_workspaces, not_built, not_latest, savepoint_there, workspace_there,
 };
 use wm_plan::session::{Session, Stand};
 use wm_plan::work::is_spent;
@@ -32,16 +35,6 @@ use wm_state::edit::Edit;
 
 /// The most workspaces of a store.
 const SPACE_LIMIT: usize = 1_024;
-
-/// Where a session stands, as an edit has it: at what is newest, or at the savepoint of a making.
-fn place_of(stand: Stand) -> Option<u64>
-    ensures { stand_of result ≡ stand_view stand }
-{
-    match stand {
-        Stand::Latest => None,
-        Stand::At(making) => Some(making),
-    }
-}
 
 /// Whether one stands so in a workspace: the savepoint is there.
 fn is_there(image: &Image, space: &Space, at: Option<u64>) -> bool
@@ -95,15 +88,16 @@ fn bear_where(
     moment: u64,
     session: &Session,
     space: &Space,
+    at: Option<u64>,
     name: Name,
 ) -> Result<Planned, Memory>
     requires moment { moment < END }
+    requires stands { stand_of at ≡ session.now.stand }
     requires roomy { BearsRoomy image.now session.now name space.now }
     ensures does { IfOk result (λ p. (xs : List SessionState) → IsOpen xs session.now → DoesIt image.now xs moment p (create_workspace session.now name)) }
     ensures idle { IfOk result Idles }
     ensures few { IfOk result AreForks }
 {
-    let at = place_of(session.stand());
     if is_placeless(space, at) {
         return ended(alloc, b"PLACE");
     }
@@ -119,7 +113,34 @@ fn bear_where(
     bear(alloc, image, moment, space, at, name)
 }
 
-/// A workspace of a new name is born in another, where there is room.
+/// A workspace of a new name is born where a session stands, where there is room.
+fn bear_at(
+    alloc: Global,
+    image: &Image,
+    moment: u64,
+    session: &Session,
+    space: &Space,
+    at: Option<u64>,
+    name: Name,
+) -> Result<Planned, Memory>
+    requires moment { moment < END }
+    requires stands { stand_of at ≡ session.now.stand }
+    requires bears { BearsIn image.now session.now name space.now }
+    requires new { find (λ (x : OneSavepoint). bytes_eq (implicit_of space.now) x.name) (saved_in (parts_of image.now) space.now.number) ≡ None }
+    ensures does { IfOk result (λ p. (xs : List SessionState) → IsOpen xs session.now → DoesIt image.now xs moment p (create_workspace session.now name)) }
+    ensures idle { IfOk result Idles }
+    ensures few { IfOk result AreForks }
+{
+    if image.space_count() >= SPACE_LIMIT {
+        return Ok(Planned::answered(alloc, most_workspaces()));
+    }
+    if image.savepoint_count(space.number) >= SAVEPOINT_LIMIT {
+        return Ok(Planned::answered(alloc, most_savepoints()));
+    }
+    bear_where(alloc, image, moment, session, space, at, name)
+}
+
+/// A workspace of a new name is born in another. On a date none is.
 fn bear_in(
     alloc: Global,
     image: &Image,
@@ -141,13 +162,11 @@ fn bear_in(
     {
         return Ok(Planned::answered(alloc, savepoint_there(implicit)));
     }
-    if image.space_count() >= SPACE_LIMIT {
-        return Ok(Planned::answered(alloc, most_workspaces()));
+    match session.stand() {
+        Stand::Latest => bear_at(alloc, image, moment, session, space, None, name),
+        Stand::At(making) => bear_at(alloc, image, moment, session, space, Some(making), name),
+        Stand::Dated(_) => Ok(Planned::answered(alloc, not_latest())),
     }
-    if image.savepoint_count(space.number) >= SAVEPOINT_LIMIT {
-        return Ok(Planned::answered(alloc, most_savepoints()));
-    }
-    bear_where(alloc, image, moment, session, space, name)
 }
 
 /// CreateWorkspace makes a child of the session's workspace.

@@ -1,5 +1,6 @@
 //! What each call is given by its arguments.
 
+pub mod comparing;
 pub mod enable;
 pub mod going;
 pub mod looking;

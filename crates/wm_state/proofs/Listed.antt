@@ -12,6 +12,7 @@ use Rattle.wm_base.specs.Period.{Span, always}
 use Rattle.wm_base.specs.declared.row.Row.{Row}
 use Rattle.wm_base.specs.declared.value.Value.{Value}
 use Rattle.wm_graph.specs.Parts.{Parts, row_of}
+use Rattle.wm_period.specs.Pieces.{Held}
 use Rattle.wm_spec.specs.Lists.{Cell, Entry, Told, told, stamp_at, standing_stamp}
 use Rattle.wm_spec.proofs.Keys.{keys-ascend}
 use Rattle.wm_spec.specs.Stretches.{Stretch, value_at, AreMaximal, is_key_in, rows, rows_of_key, keys}
@@ -22,9 +23,9 @@ use Rattle.wm_spec.proofs.Stretches.{value-rows, AreMaximal-rows}
 use Rattle.wm_tree.specs.declared.version.Version.{Version as Node}
 use Rattle.wm_state.specs.State.{Durable, Workspace, Savepoint, content, kept, workspace_of, savepoint_made}
 use Rattle.wm_state.specs.Standing.{held_of, stored_at, seen_at, seen, newest_first, latest, saved_as, HasRows, Newest, Kept, Stands}
-use Rattle.wm_state.specs.Listing.{standing, stamp_seen, stamp_shown, listed, row_on, row_with, seen_row, row_shown, row_shown_with, is_unwritten, IsListing, IsShowing, AreRowsOf, Groups, keys_of, joined, AreAllRowsOf}
+use Rattle.wm_state.specs.Listing.{standing, stamp_seen, stamp_shown, listed, row_on, row_with, seen_row, row_shown, row_shown_with, is_unwritten, IsListing, IsShowing, IsShowingBy, AreRowsOf, Groups, keys_of, joined, AreAllRowsBy}
 use Rattle.wm_state.proofs.Shown.{showing_listed}
-use Rattle.wm_state.proofs.Listing.{one_rows, rows_of, Covers, listed_same, first-listed, no_rows_of, first-held, behind-held}
+use Rattle.wm_state.proofs.Listing.{one_rows, rows_by, rows_of, Covers, listed_same, first-listed, no_rows_of, first-held, behind-held}
 
 -- ---- a key of which there is no piece
 
@@ -46,8 +47,9 @@ unseen pieces c none (x ∷ older) v = by_number (x.number == v) (unseen pieces 
     by_number true up along = rw (none v, up) refl
     by_number false up along = along
 
-unread : (p : Parts) (version table : ℕ) (key : List Value) (t : ℕ) → is_unwritten p.pieces table key → stamp_seen p version table key t ≡ None
-unread p version table key t none = ap (option_and_then standing) (unseen p.pieces (record { table = table; key = key; time = t }) (λ v. unstored p.pieces table key t v none) (newest_first p.versions) version)
+-- no version holds anything of it
+pub unseen_of : (p : Parts) (version table : ℕ) (key : List Value) (t : ℕ) → is_unwritten p.pieces table key → seen p version (record { table = table; key = key; time = t }) ≡ None
+unseen_of p version table key t none = unseen p.pieces (record { table = table; key = key; time = t }) (λ v. unstored p.pieces table key t v none) (newest_first p.versions) version
 
 -- ---- what a version holds is what a list of entries holds
 
@@ -63,6 +65,18 @@ stamp_same (Some t) = by_row t.row
     by_row None = refl
     by_row (Some row) = refl
 
+-- a function of the cell holds in a table what a list of entries holds there
+abbrev pub HoldsIn : (Cell → Option Held) → ℕ → List Entry → Type 0
+HoldsIn f table es = (key : List Value) (t : ℕ) → f (record { table = table; key = key; time = t }) ≡ option_map held_of (told es (record { table = table; key = key; time = t }))
+
+-- the row of each entry that a list holds in a table stands under its stamp
+abbrev pub HasRowsIn : Parts → ℕ → List Entry → Type 0
+HasRowsIn p table es =
+    (key : List Value) (time : ℕ) (t : Told) (row : Row) → told es (record { table = table; key = key; time = time }) ≡ Some t → t.row ≡ Some row → option_map (λ (r : RowRecord). r.values) (row_of p.rows t.stamp) ≡ Some row.values
+
+held_is : (f : Cell → Option Held) (table : ℕ) (es : List Entry) → HoldsIn f table es → (key : List Value) (t : ℕ) → option_and_then standing (f (record { table = table; key = key; time = t })) ≡ stamp_at es table key t
+held_is f table es holds key t = ap (option_and_then standing) (holds key t) ∙ stamp_same (told es (record { table = table; key = key; time = t }))
+
 -- a version holds at each cell what a list of entries holds there
 abbrev pub HoldsAll : Parts → ℕ → List Entry → Type 0
 HoldsAll p version es = (c : Cell) → seen p version c ≡ option_map held_of (told es c)
@@ -77,8 +91,8 @@ shown_is p s n w st is = seen_is p (latest p n) (content w) (st.named.tells _ _ 
 -- ---- the rows themselves
 
 -- the row of a stamp is the row that is held
-row_there : (p : Parts) (es : List Entry) → HasRows p es → (table : ℕ) (place : List Value × Stretch) → stamp_at es table place.0 place.1.from ≡ Some place.1.stamp → row_with p place ≡ row_on es table place
-row_there p es has table place held = by_told (told es c) refl held
+row_there : (p : Parts) (es : List Entry) (table : ℕ) → HasRowsIn p table es → (place : List Value × Stretch) → stamp_at es table place.0 place.1.from ≡ Some place.1.stamp → row_with p place ≡ row_on es table place
+row_there p es table has place held = by_told (told es c) refl held
   where
     c : Cell
     c = record { table = table; key = place.0; time = place.1.from }
@@ -89,7 +103,7 @@ row_there p es has table place held = by_told (told es c) refl held
       where
         by_row : (r : Option Row) → t.row ≡ r → then_some (is_some r) t.stamp ≡ Some place.1.stamp → row_with p place ≡ option_and_then (λ (t : Told). t.row) (told es c)
         by_row None none g = absurd (none-some place.1.stamp g)
-        by_row (Some row) some g = ap (λ k. option_map to_row (row_of p.rows k)) (sym (same_Some t.stamp place.1.stamp g)) ∙ by_record (row_of p.rows t.stamp) (has c t row e some) ∙ sym (ap (option_and_then (λ (t : Told). t.row)) e ∙ some)
+        by_row (Some row) some g = ap (λ k. option_map to_row (row_of p.rows k)) (sym (same_Some t.stamp place.1.stamp g)) ∙ by_record (row_of p.rows t.stamp) (has place.0 place.1.from t row e some) ∙ sym (ap (option_and_then (λ (t : Told). t.row)) e ∙ some)
           where
             to_row : RowRecord → Row
             to_row r = record { values = r.values }
@@ -106,25 +120,25 @@ step_same f g a l e rest = by_some (g a) refl
     by_some None h = rw (e ∙ h, h) rest
     by_some (Some row) h = rw (e ∙ h, h) (ap (λ (rows : List Row). row ∷ rows) rest)
 
-rows_there : (p : Parts) (es : List Entry) → HasRows p es → (table : ℕ) (valid : Bool) (within : Span) (key : List Value) (ss : List Stretch) (low : ℕ) → AreMaximal low ss
+rows_there : (p : Parts) (es : List Entry) (table : ℕ) → HasRowsIn p table es → (valid : Bool) (within : Span) (key : List Value) (ss : List Stretch) (low : ℕ) → AreMaximal low ss
     → ((t : ℕ) → low ≤ t → value_at ss t ≡ stamp_at es table key t)
     → filter_map (row_shown_with p valid within) (map (λ x. (key, x)) ss) ≡ filter_map (row_shown es table valid within) (map (λ x. (key, x)) ss)
-rows_there p es has table valid within key [] low max held = refl
-rows_there p es has table valid within key (x ∷ xs) low max held =
+rows_there p es table has valid within key [] low max held = refl
+rows_there p es table has valid within key (x ∷ xs) low max held =
     step_same (row_shown_with p valid within) (row_shown es table valid within) (key, x) (map (λ x. (key, x)) xs)
-    (ap (seen_row valid within x) (row_there p es has table (key, x) (sym (held x.from max.0) ∙ first-held low x xs x.from max (omega arith) max.1)))
-    (rows_there p es has table valid within key xs x.till max.3 (λ t le. sym (behind-held x xs t le) ∙ held t (omega (arith, max.0, max.1, le))))
+    (ap (seen_row valid within x) (row_there p es table has (key, x) (sym (held x.from max.0) ∙ first-held low x xs x.from max (omega arith) max.1)))
+    (rows_there p es table has valid within key xs x.till max.3 (λ t le. sym (behind-held x xs t le) ∙ held t (omega (arith, max.0, max.1, le))))
 
-all_there : (p : Parts) (es : List Entry) → HasRows p es → (table : ℕ) (valid : Bool) (within : Span) (ks : List (List Value))
+all_there : (p : Parts) (es : List Entry) (table : ℕ) → HasRowsIn p table es → (valid : Bool) (within : Span) (ks : List (List Value))
     → filter_map (row_shown_with p valid within) (listed (rows_of_key es table) ks) ≡ filter_map (row_shown es table valid within) (listed (rows_of_key es table) ks)
-all_there p es has table valid within [] = refl
-all_there p es has table valid within (k ∷ ks) =
+all_there p es table has valid within [] = refl
+all_there p es table has valid within (k ∷ ks) =
     let with_key : List (List Value × Stretch) = map (λ x. (k, x)) (rows_of_key es table k) in
     let others : List (List Value × Stretch) = listed (rows_of_key es table) ks in
     filter_map-append (row_shown_with p valid within) with_key others
     ∙ ap (λ rs. rs ++ filter_map (row_shown_with p valid within) others)
-    (rows_there p es has table valid within k (rows_of_key es table k) 0 (AreMaximal-rows es table k) (λ t le. value-rows es table k t))
-    ∙ ap (λ rs. filter_map (row_shown es table valid within) with_key ++ rs) (all_there p es has table valid within ks)
+    (rows_there p es table has valid within k (rows_of_key es table k) 0 (AreMaximal-rows es table k) (λ t le. value-rows es table k t))
+    ∙ ap (λ rs. filter_map (row_shown es table valid within) with_key ++ rs) (all_there p es table has valid within ks)
     ∙ sym (filter_map-append (row_shown es table valid within) with_key others)
 
 -- ---- the listing
@@ -133,29 +147,36 @@ covered : (f : List Value → List Stretch) (xs ys : List (List Value)) → ((k 
 covered f [] ys none = tt
 covered f (x ∷ xs) ys none = (none x, covered f xs ys none)
 
--- where a version holds what a list of entries holds, and the rows stand, what is shown is what the list has
-pub showing_of : (p : Parts) (version : ℕ) (es : List Entry) (table : ℕ) (valid : Bool) (within : Span) (out : List Row) → HoldsAll p version es → HasRows p es → IsShowing p version table valid within out
+-- where a function of the cell holds what a list of entries holds, and the rows stand, what is shown is what the list has
+pub showing_by : (p : Parts) (f : Cell → Option Held) (es : List Entry) (table : ℕ) (valid : Bool) (within : Span) (out : List Row) → HoldsIn f table es → HasRowsIn p table es → IsShowingBy p f table valid within out
     → out ≡ filter_map (row_shown es table valid within) (rows es table)
-showing_of p version es table valid within out holds has l =
+showing_by p f es table valid within out holds has l =
     l.are
     ∙ ap (filter_map (row_shown_with p valid within))
     (joined_is l.groups l.held
     ∙ listed_same (rows_of_key es table) (keys_of l.groups) (keys es table) l.ascend (keys-ascend es table)
     (covered (rows_of_key es table) (keys_of l.groups) (keys es table) (no_rows_of es table))
     (covered (rows_of_key es table) (keys es table) (keys_of l.groups) (λ k out. no_rows k (l.whole k out))))
-    ∙ all_there p es has table valid within (keys es table)
+    ∙ all_there p es table has valid within (keys es table)
     ∙ ap (filter_map (row_shown es table valid within)) (sym (first-listed es table (keys es table)))
   where
-    -- a key of which there is no piece has no rows
-    no_rows : (k : List Value) → is_unwritten p.pieces table k → rows_of_key es table k ≡ []
+    -- a key of which nothing is held has no rows
+    no_rows : (k : List Value) → ((t : ℕ) → f (record { table = table; key = k; time = t }) ≡ None) → rows_of_key es table k ≡ []
     no_rows k none = one_rows (rows_of_key es table k) [] 0 (AreMaximal-rows es table k) tt
-        (λ t le. value-rows es table k t ∙ sym (seen_is p version es holds table k t) ∙ unread p version table k t none)
+        (λ t le. value-rows es table k t ∙ sym (held_is f table es holds k t) ∙ ap (option_and_then standing) (none t))
 
-    joined_is : (gs : Groups) → AreAllRowsOf p version table gs → joined gs ≡ listed (rows_of_key es table) (keys_of gs)
+    joined_is : (gs : Groups) → AreAllRowsBy f table gs → joined gs ≡ listed (rows_of_key es table) (keys_of gs)
     joined_is [] held = refl
     joined_is (g ∷ gs) held =
-        ap (λ ss. map (λ s. (g.0, s)) ss ++ joined gs) (rows_of p version table g.0 es g.1 (seen_is p version es holds table g.0) held.0)
+        ap (λ ss. map (λ s. (g.0, s)) ss ++ joined gs) (rows_by f table g.0 es g.1 (held_is f table es holds g.0) held.0)
         ∙ ap (λ rest. map (λ s. (g.0, s)) (rows_of_key es table g.0) ++ rest) (joined_is gs held.1)
+
+-- so for a version
+pub showing_of : (p : Parts) (version : ℕ) (es : List Entry) (table : ℕ) (valid : Bool) (within : Span) (out : List Row) → HoldsAll p version es → HasRows p es → IsShowing p version table valid within out
+    → out ≡ filter_map (row_shown es table valid within) (rows es table)
+showing_of p version es table valid within out holds has l =
+    showing_by p (seen p version) es table valid within out (λ key t. holds (record { table = table; key = key; time = t })) (λ key time. has (record { table = table; key = key; time = time }))
+    (record { groups = l.groups; ascend = l.ascend; whole = λ k none t. unseen_of p version table k t (l.whole k none); held = l.held; are = l.are })
 
 -- what the newest version of a workspace shows is what its content has
 pub showing_is : (p : Parts) (s : Durable) (n : ℕ) (w : Workspace) (table : ℕ) (valid : Bool) (within : Span) (out : List Row) → Stands p s → workspace_of s.spaces n ≡ Some w
@@ -187,5 +208,5 @@ key_rows p version es table key ss holds are = sym (rows_of p version table key 
 pub key_showing_of : (p : Parts) (version : ℕ) (es : List Entry) (table : ℕ) (valid : Bool) (within : Span) (key : List Value) (ss : List Stretch) → HoldsAll p version es → HasRows p es → AreRowsOf p version table key ss
     → filter_map (row_shown_with p valid within) (map (λ s. (key, s)) ss) ≡ filter_map (row_shown es table valid within) (map (λ s. (key, s)) (rows_of_key es table key))
 key_showing_of p version es table valid within key ss holds has are =
-    rows_there p es has table valid within key ss 0 are.maximal (λ t le. are.held t ∙ seen_is p version es holds table key t)
+    rows_there p es table (λ k time. has (record { table = table; key = k; time = time })) valid within key ss 0 are.maximal (λ t le. are.held t ∙ seen_is p version es holds table key t)
     ∙ ap (λ xs. filter_map (row_shown es table valid within) (map (λ s. (key, s)) xs)) (sym (key_rows p version es table key ss holds are))

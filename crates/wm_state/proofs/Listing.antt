@@ -1,7 +1,8 @@
 -- The rows of a table are determined by what is held at each cell, and by any keys that have all that hold something.
-use Rattle.std.proofs.Common.{◌≡◌, ◌≢◌, ℕ, ◌<◌, ◌≤◌, ◌==◌, ◌&&◌, ◌||◌, nat_lt, nat_le, Bool, true, false, if◌then◌else◌, List, [], ◌∷◌, ◌++◌, map, Some, refl, sym, ap, subst, ◌∙◌, ◌⊎◌, inl, inr, arith}
+use Rattle.std.proofs.Common.{◌≡◌, ◌≢◌, ℕ, ◌<◌, ◌≤◌, ◌==◌, ◌&&◌, ◌||◌, nat_lt, nat_le, Bool, true, false, if◌then◌else◌, List, [], ◌∷◌, ◌++◌, map, Option, Some, refl, sym, ap, subst, ◌∙◌, ◌⊎◌, inl, inr, arith}
 use Rattle.std.proofs.lemmas.Bool.{cases_eq, or_parts}
 use Rattle.std.proofs.lemmas.Option.{same_Some}
+use Rattle.std.specs.Option.{option_and_then}
 use Rattle.std.specs.Ordering.{is_eq}
 use Rattle.std.specs.declared.cmp.Ordering.{Ordering}
 use Rattle.std.specs.declared.cmp.Ordering.TheVariants.{Less, Equal, Greater}
@@ -9,11 +10,14 @@ use Rattle.wm_base.proofs.Plain.{none_some, option_or-none}
 use Rattle.wm_base.specs.Key.{key_order}
 use Rattle.wm_base.specs.Orders.{key_order_total, key_order-itself, key_order-equal}
 use Rattle.wm_base.specs.declared.value.Value.{Value}
-use Rattle.wm_spec.specs.Lists.{Entry, stamp_at}
+use Rattle.wm_graph.specs.Parts.{Parts}
+use Rattle.wm_period.specs.Pieces.{Held}
+use Rattle.wm_spec.specs.Lists.{Cell, Entry, stamp_at}
 use Rattle.wm_spec.specs.Stretches.{Stretch, value_at, AreMaximal, ComesBefore, KeysAscend, is_key_in, rows_from, rows_of_key, keys, key_in, cuts, stretches}
 use Rattle.wm_spec.proofs.Keys.{before-more, key_in-has}
 use Rattle.wm_spec.proofs.Stretches.{value-rows, AreMaximal-rows, value-before}
-use Rattle.wm_state.specs.Listing.{stamp_seen, AreRowsOf, listed}
+use Rattle.wm_state.specs.Listing.{stamp_seen, AreRowsBy, AreRowsOf, listed, standing}
+use Rattle.wm_state.specs.Standing.{seen}
 use Rattle.wm_state.proofs.Laying.{key_same}
 
 -- ---- stretches are determined by what they hold
@@ -100,9 +104,13 @@ one_rows (a ∷ xs) (b ∷ ys) low one two same = by_from (compared a.from b.fro
         (compared a.till b.till) rest
 
 -- the rows of a key are those that are held
-pub rows_of : (p : _) (version table : ℕ) (key : List Value) (es : List Entry) (ss : List Stretch) → ((t : ℕ) → stamp_seen p version table key t ≡ stamp_at es table key t) → AreRowsOf p version table key ss → ss ≡ rows_of_key es table key
-rows_of p version table key es ss same are =
+pub rows_by : (f : Cell → Option Held) (table : ℕ) (key : List Value) (es : List Entry) (ss : List Stretch) → ((t : ℕ) → option_and_then standing (f (record { table = table; key = key; time = t })) ≡ stamp_at es table key t) → AreRowsBy f table key ss
+    → ss ≡ rows_of_key es table key
+rows_by f table key es ss same are =
     one_rows ss (rows_of_key es table key) 0 are.maximal (AreMaximal-rows es table key) (λ t le. are.held t ∙ same t ∙ sym (value-rows es table key t))
+
+pub rows_of : (p : Parts) (version table : ℕ) (key : List Value) (es : List Entry) (ss : List Stretch) → ((t : ℕ) → stamp_seen p version table key t ≡ stamp_at es table key t) → AreRowsOf p version table key ss → ss ≡ rows_of_key es table key
+rows_of p version table key es ss same are = rows_by (seen p version) table key es ss same are
 
 -- ---- keys
 

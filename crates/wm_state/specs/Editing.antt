@@ -17,7 +17,7 @@ use Rattle.wm_state.specs.declared.edit.Edit.TheVariants as edits
 use Rattle.wm_state.specs.declared.edit.NewEntry.{NewEntry}
 use Rattle.wm_state.specs.declared.edit.NewLock.{NewLock}
 use Rattle.wm_state.specs.declared.edit.NewMark.{NewMark}
-use Rattle.wm_state.specs.State.{Durable, Workspace, Savepoint, Turn, Stand, Latest, At, Readiness, content, kept, enabled, with_space, with_entries, with_gained, with_savepoint, workspace_of, savepoints_of, savepoint_made, table_named, next_making, next_space}
+use Rattle.wm_state.specs.State.{Durable, Workspace, Savepoint, Turn, Stand, Latest, At, Dated, Readiness, content, kept, enabled, with_space, with_entries, with_gained, with_savepoint, workspace_of, savepoints_of, savepoint_made, table_named, next_making, next_space}
 
 -- ---- what is counted
 
@@ -60,7 +60,7 @@ written_all n es s = record s { spaces = with_space n (with_entries es) s.spaces
 -- ---- savepoints
 
 -- a savepoint that is made at a moment where one stands in a workspace: at what is newest it has a new place, and at a savepoint the
--- place of that one
+-- place of that one; on a date none is made
 abbrev pub saved_at : ℕ → List Workspace → Workspace → Stand → List ℕ → Bool → Option Savepoint
 saved_at m spaces w Latest name implicit = Some (record {
   making = next_making spaces;
@@ -76,11 +76,13 @@ saved_at m spaces w Latest name implicit = Some (record {
 })
 saved_at m spaces w (At making) name implicit =
     option_map (λ (k : Savepoint). record k { making = next_making spaces; name = name; implicit = implicit }) (savepoint_made making w.savepoints)
+saved_at m spaces w (Dated date) name implicit = None
 
 -- the next place behind such a savepoint
 abbrev pub place_behind : Workspace → Stand → ℕ
 place_behind w Latest = w.next_place + 1
 place_behind w (At making) = w.next_place
+place_behind w (Dated date) = w.next_place
 
 -- the workspace of this number has a savepoint more
 abbrev pub saved : ℕ → ℕ → ℕ → Savepoint → Durable → Durable

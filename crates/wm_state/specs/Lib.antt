@@ -3,6 +3,7 @@ pub mod Editing
 pub mod Firsts
 pub mod ById
 pub mod Standing
+pub mod Reading
 pub mod Points
 pub mod Effects
 pub mod Batches

@@ -9,7 +9,7 @@ use Rattle.wm_base.specs.declared.row.Row.{Row}
 use Rattle.wm_base.specs.declared.value.Value.{Value}
 use Rattle.wm_base.specs.declared.value.Value.TheVariants as values
 use Rattle.wm_period.specs.Pieces.{Held}
-use Rattle.wm_spec.specs.Lists.{Entry, Told, told}
+use Rattle.wm_spec.specs.Lists.{Cell, Entry, Told, told}
 use Rattle.wm_spec.specs.Stretches.{Stretch, AreMaximal, KeysAscend, is_key_in, value_at}
 use Rattle.wm_graph.specs.Parts.{Parts, row_of}
 use Rattle.wm_spec.specs.declared.record.piece.PieceRecord.{PieceRecord}
@@ -28,10 +28,14 @@ stamp_seen p version table key t = option_and_then standing (seen p version (rec
 abbrev pub stamp_shown : Parts → ℕ → ℕ → List Value → ℕ → Option ℕ
 stamp_shown p space = stamp_seen p (latest p space)
 
--- the stretches of a key are the longest on which a version holds a row of one stamp
-pub record AreRowsOf (p : Parts) (version table : ℕ) (key : List Value) (ss : List Stretch) : Type 0 where
+-- the stretches of a key are the longest on which a function of the cell holds a row of one stamp
+pub record AreRowsBy (f : Cell → Option Held) (table : ℕ) (key : List Value) (ss : List Stretch) : Type 0 where
   pub maximal : AreMaximal 0 ss
-  pub held : (t : ℕ) → value_at ss t ≡ stamp_seen p version table key t
+  pub held : (t : ℕ) → value_at ss t ≡ option_and_then standing (f (record { table = table; key = key; time = t }))
+
+-- so for what a version holds
+abbrev pub AreRowsOf : Parts → ℕ → ℕ → List Value → List Stretch → Type 0
+AreRowsOf p version = AreRowsBy (seen p version)
 
 -- what a function lists for each key, with the key, one key after another
 abbrev pub listed : (List Value → List Stretch) → List (List Value) → List (List Value × Stretch)
@@ -89,9 +93,12 @@ abbrev pub joined : Groups → List (List Value × Stretch)
 joined [] = []
 joined (g ∷ gs) = map (λ s. (g.0, s)) g.1 ++ joined gs
 
+abbrev pub AreAllRowsBy : (Cell → Option Held) → ℕ → Groups → Type 0
+AreAllRowsBy f table [] = Unit {0}
+AreAllRowsBy f table (g ∷ gs) = AreRowsBy f table g.0 g.1 × AreAllRowsBy f table gs
+
 abbrev pub AreAllRowsOf : Parts → ℕ → ℕ → Groups → Type 0
-AreAllRowsOf p version table [] = Unit {0}
-AreAllRowsOf p version table (g ∷ gs) = AreRowsOf p version table g.0 g.1 × AreAllRowsOf p version table gs
+AreAllRowsOf p version = AreAllRowsBy (seen p version)
 
 -- the rows of a table that a version holds, by key and from
 pub record IsListing (p : Parts) (version table : ℕ) (rows : List Row) : Type 0 where
@@ -108,4 +115,13 @@ pub record IsShowing (p : Parts) (version table : ℕ) (valid : Bool) (within : 
   pub ascend : KeysAscend (keys_of groups)
   pub whole : (k : List Value) → is_key_in k (keys_of groups) ≡ false → is_unwritten p.pieces table k
   pub held : AreAllRowsOf p version table groups
+  pub are : rows ≡ filter_map (row_shown_with p valid within) (joined groups)
+
+-- the same of what a function of the cell holds
+pub record IsShowingBy (p : Parts) (f : Cell → Option Held) (table : ℕ) (valid : Bool) (within : Span) (rows : List Row) : Type 0 where
+  pub groups : Groups
+  pub ascend : KeysAscend (keys_of groups)
+  -- of a key that is none of them nothing is held
+  pub whole : (k : List Value) → is_key_in k (keys_of groups) ≡ false → (t : ℕ) → f (record { table = table; key = k; time = t }) ≡ None
+  pub held : AreAllRowsBy f table groups
   pub are : rows ≡ filter_map (row_shown_with p valid within) (joined groups)

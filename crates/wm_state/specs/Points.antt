@@ -13,7 +13,7 @@ use Rattle.wm_spec.specs.declared.record.space.Space.{Space}
 use Rattle.wm_spec.specs.declared.record.turn.Turn.{Turn}
 use Rattle.wm_spec.specs.declared.record.version.Version.{Version}
 use Rattle.wm_state.specs.Editing.{implicit_front}
-use Rattle.wm_state.specs.State.{Stand, Latest, At}
+use Rattle.wm_state.specs.State.{Stand, Latest, At, Dated}
 use Rattle.wm_state.specs.Standing.{latest, saved_in, saved_as, space_after, making_behind}
 
 -- ---- counters
@@ -74,15 +74,17 @@ saved_point y = record {
   rebases = y.rebases;
 }
 
--- where one stands in a workspace; none if its savepoint is not there
+-- where one stands in a workspace; none if its savepoint is not there, or on a date
 abbrev pub point_at : Parts → Space → ℕ → Stand → Option Point
 point_at p a m Latest = Some (newest_point p a m)
 point_at p a m (At making) = option_map saved_point (saved_as p a.number making)
+point_at p a m (Dated date) = None
 
 -- the workspace's next place once a savepoint was made there
 abbrev pub next_place_at : Space → Stand → ℕ
 next_place_at a Latest = a.next_place + 1
 next_place_at a (At making) = a.next_place
+next_place_at a (Dated date) = a.next_place
 
 -- ---- what is written
 

@@ -62,10 +62,11 @@ pub record Workspace : Type 0 where
   pub turns : List Turn
   pub settled : List Settled
 
--- where a session stands in its workspace: at what is newest, or at the savepoint of this making
+-- where a session stands in its workspace: at what is newest, at the savepoint of this making, or on a date
 pub data Stand : Type 0 where
   Latest : Stand
   At : (making : ℕ) → Stand
+  Dated : (date : ℕ) → Stand
 
 -- a decision on a stretch of conflict: what is copied there of one side, each with the period over which it stands; position: how long
 -- the log of the parent was
@@ -82,10 +83,20 @@ pub record Resolve : Type 0 where
   pub space : ℕ
   pub decisions : List Decision
 
+-- a point that a session compares with another one: what is newest in the workspace of a name, or a savepoint of it
+pub record Viewpoint : Type 0 where
+  pub workspace : List ℕ
+  pub savepoint : Option (List ℕ)
+
+-- the two points that it compares
+pub record Difference : Type 0 where
+  pub first : Viewpoint
+  pub second : Viewpoint
+
 -- space: the number of its workspace; period: the one that SetValidTime set for it, in which it sees rows and changes them; conflict:
 -- the name of the workspace whose conflicts it looks at, which SetConflictWorkspace set for it; resolve: what BeginResolve opened;
 -- freezes: the numbers of the workspaces that it froze for itself alone; locking: the mode in which its changes lock what they change,
--- where they do
+-- where they do; difference: the points that SetDiffVersions set for it to compare
 pub record Session : Type 0 where
   pub name : List ℕ
   pub user : List ℕ
@@ -96,6 +107,7 @@ pub record Session : Type 0 where
   pub resolve : Option Resolve
   pub freezes : List ℕ
   pub locking : Option LockMode
+  pub difference : Option Difference
 
 -- the part of the state that a store keeps: tables in the order of their making; workspaces by number; next_stamp: the stamp that
 -- the next change gets; limit: the greatest stamp that a change may get; last_moment: that of the last line that changed something
@@ -172,15 +184,6 @@ with_space number act (w ∷ ws) = if w.number == number then act w ∷ ws else 
 -- the savepoint of a making
 abbrev pub savepoint_made : ℕ → List Savepoint → Option Savepoint
 savepoint_made making ks = find (λ (k : Savepoint). k.making == making) ks
-
--- what a session reads that stands so in a workspace
-abbrev pub seen_from : Workspace → Stand → List Entry
-seen_from w Latest = content w
-seen_from w (At making) = of (savepoint_made making w.savepoints)
-  where
-    of : Option Savepoint → List Entry
-    of None = []
-    of (Some k) = kept k
 
 -- the savepoints of the workspace of this number
 abbrev pub savepoints_of : List Workspace → ℕ → List Savepoint

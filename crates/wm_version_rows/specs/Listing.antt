@@ -6,9 +6,12 @@ use Rattle.wm_base.specs.Period.{Span}
 use Rattle.wm_base.specs.declared.row.Row.{Row}
 use Rattle.wm_base.specs.declared.value.Value.{Value}
 use Rattle.wm_graph.specs.Parts.{Parts, row_of}
+use Rattle.wm_period.specs.Pieces.{Held}
+use Rattle.wm_spec.specs.Lists.{Cell}
 use Rattle.wm_spec.specs.Stretches.{Stretch}
 use Rattle.wm_spec.specs.declared.record.row.RowRecord.{RowRecord}
-use Rattle.wm_state.specs.Listing.{AreRowsOf, first_shared, row_shown_with, seen_row, span_on}
+use Rattle.wm_state.specs.Listing.{AreRowsBy, AreRowsOf, first_shared, row_shown_with, seen_row, span_on}
+use Rattle.wm_state.specs.Standing.{seen}
 
 -- the row of a stamp, without the stamp
 abbrev pub row_under : Parts → ℕ → Option Row
@@ -18,11 +21,15 @@ row_under p stamp = option_map (λ (r : RowRecord). let row : Row = record { val
 abbrev pub shown_on : Parts → Bool → Span → List Stretch → List Row
 shown_on p valid within ss = filter_map (λ (s : Stretch). seen_row valid within s (row_under p s.stamp)) ss
 
--- what is shown of the rows of a key that a version holds was put behind others
-pub record AddsRows (p : Parts) (version table : ℕ) (valid : Bool) (within : Span) (key : List Value) (old new : List Row) : Type 0 where
+-- what is shown of the rows of a key that a function of the cell holds was put behind others
+pub record AddsRowsBy (p : Parts) (f : Cell → Option Held) (table : ℕ) (valid : Bool) (within : Span) (key : List Value) (old new : List Row) : Type 0 where
   pub stretches : List Stretch
-  pub are : AreRowsOf p version table key stretches
+  pub are : AreRowsBy f table key stretches
   pub added : new ≡ old ++ filter_map (row_shown_with p valid within) (map (λ s. (key, s)) stretches)
+
+-- so for what a version holds
+abbrev pub AddsRows : Parts → ℕ → ℕ → Bool → Span → List Value → List Row → List Row → Type 0
+AddsRows p version = AddsRowsBy p (seen p version)
 
 -- what is shown of the rows of one key that a version holds, by from
 pub record IsKeyShowing (p : Parts) (version table : ℕ) (valid : Bool) (within : Span) (key : List Value) (rows : List Row) : Type 0 where

@@ -106,7 +106,7 @@ fn push_ending(
 }
 
 /// Puts what is shown of the rows of pieces behind others: a row once, where it stands on pieces that meet.
-fn push_rows(
+pub fn push_rows(
     alloc: Global,
     image: &Image,
     rows: &mut RowList,

@@ -59,7 +59,7 @@ use Rattle.wm_view_rows.specs.declared.view.View.TheVariants.{Conflicts, History
 abbrev fits_one : Value → ℕ → Bool
 fits_one v kind = (type_place v == 0) || (type_place v == kind)
 
-fits_more : (xs ys : List Column) (vs ws : List Value) → fits_columns xs vs ≡ true → fits_columns ys ws ≡ true → fits_columns (xs ++ ys) (vs ++ ws) ≡ true
+pub fits_more : (xs ys : List Column) (vs ws : List Value) → fits_columns xs vs ≡ true → fits_columns ys ws ≡ true → fits_columns (xs ++ ys) (vs ++ ws) ≡ true
 fits_more [] ys [] ws one two = two
 fits_more [] ys (v ∷ vs) ws one two = absurd (true≢false (sym one))
 fits_more (x ∷ xs) ys [] ws one two = absurd (true≢false (sym one))
@@ -123,7 +123,7 @@ keys_fit source columns places key place (c ∷ cs) typed at =
 -- ---- what is shown of a side
 
 -- the values of a row of the table, where there are any
-abbrev FitsTable : Table → Option (List Value) → Type 0
+abbrev pub FitsTable : Table → Option (List Value) → Type 0
 FitsTable t row = (vs : List Value) → row ≡ Some vs → fit_columns t.columns vs ≡ true
 
 key_typed : (t : Table) (key : List Value) → is_key_of key t ≡ true → are_typed t.columns t.key_columns key ≡ true
@@ -144,7 +144,7 @@ valid_fits : (source : List ℕ) (period : Span) (valid : Bool) → fits_columns
 valid_fits source period true = refl
 valid_fits source period false = refl
 
-shown_fits : (source : List ℕ) (t : Table) (key : List Value) (period : Span) (row : Option (List Value)) → is_key_of key t ≡ true → FitsTable t row
+pub shown_fits : (source : List ℕ) (t : Table) (key : List Value) (period : Span) (row : Option (List Value)) → is_key_of key t ≡ true → FitsTable t row
     → fits_columns (columns_of_table source t) (shown_values t key period row) ≡ true
 shown_fits source t key period row keyed fit =
     fits_more (map (declared_column source) t.columns) (if t.valid then valid_column source ∷ [] else []) (side_values t key row) (if t.valid then values.Span period ∷ [] else [])
@@ -157,9 +157,9 @@ abbrev FitsStamp : Parts → Table → ℕ → Type 0
 FitsStamp p t stamp = FitsTable t (values_with p stamp)
 
 -- records that keep the rules, and a table of them
-record Asks (p : Parts) (t : Table) : Type 0 where
-  rules : keep_rules p ≡ true
-  there : table_of p.tables t.number ≡ Some t
+pub record Asks (p : Parts) (t : Table) : Type 0 where
+  pub rules : keep_rules p ≡ true
+  pub there : table_of p.tables t.number ≡ Some t
 
 abbrev next_of : (p : Parts) (t : Table) → Asks p t → ℕ
 next_of p t asks = (ruled p asks.rules).counters.next_stamp
@@ -191,7 +191,7 @@ cells_row p t cells stamp asks at same vs is = by_row (row_of p.rows stamp) refl
     by_row (Some r) found there e = ap (fit_columns t.columns) (sym (same_Some r.values vs e)) ∙ of_table r found there
 
 -- what is held at a cell of the table: its key is one of the table's, and its row, where it is not gone, one of its rows
-abbrev Suits : Parts → Table → Cell → Option Held → Type 0
+abbrev pub Suits : Parts → Table → Cell → Option Held → Type 0
 Suits p t c None = Unit {0}
 Suits p t c (Some h) = (is_key_of c.key t ≡ true) × (h.gone ≡ false → FitsStamp p t h.stamp.number)
 
@@ -234,7 +234,7 @@ stored_suits p t (x ∷ xs) version c asks of all =
 all_suit : (p : Parts) (t : Table) (version : ℕ) (c : Cell) → Asks p t → c.table ≡ t.number → Suits p t c (stored_at p.pieces version c)
 all_suit p t version c asks of = stored_suits p t p.pieces version c asks of (and_parts (differ _ p.pieces) _ (ruled p asks.rules).pieces).1
 
-seen_suits : (p : Parts) (t : Table) (nodes : _) (version : ℕ) (c : Cell) → Asks p t → c.table ≡ t.number → Suits p t c (seen_at p.pieces nodes version c)
+pub seen_suits : (p : Parts) (t : Table) (nodes : _) (version : ℕ) (c : Cell) → Asks p t → c.table ≡ t.number → Suits p t c (seen_at p.pieces nodes version c)
 seen_suits p t [] version c asks of = tt
 seen_suits p t (x ∷ older) version c asks of = by_number (x.number == version) (seen_suits p t older x.parent c asks of) (seen_suits p t older version c asks of)
   where
@@ -259,13 +259,13 @@ own_suits p t (x ∷ older) base version c asks of = by_base (version == base) (
 -- ---- conflicts
 
 -- the rows of three sides are rows of the table, under one of its keys
-record AreSuited (t : Table) (key : List Value) (rows : SideRows) : Type 0 where
-  keyed : is_key_of key t ≡ true
-  base : FitsTable t rows.base
-  parent : FitsTable t rows.parent
-  child : FitsTable t rows.child
+pub record AreSuited (t : Table) (key : List Value) (rows : SideRows) : Type 0 where
+  pub keyed : is_key_of key t ≡ true
+  pub base : FitsTable t rows.base
+  pub parent : FitsTable t rows.parent
+  pub child : FitsTable t rows.child
 
-standing_fits : (p : Parts) (t : Table) (c : Cell) (o : Option Held) → Suits p t c o → FitsTable t (option_and_then (values_with p) (option_and_then standing o))
+pub standing_fits : (p : Parts) (t : Table) (c : Cell) (o : Option Held) → Suits p t c o → FitsTable t (option_and_then (values_with p) (option_and_then standing o))
 standing_fits p t c None suits vs e = absurd (none-some vs e)
 standing_fits p t c (Some h) suits vs e = by_gone h.gone refl e
   where
@@ -280,7 +280,7 @@ held_key : (p : Parts) (t : Table) (c : Cell) (o : Option Held) → Suits p t c 
 held_key p t c None suits some = absurd (true≢false (sym some))
 held_key p t c (Some h) suits some = suits.0
 
-given_parts : {A : Type 0} (b : Bool) (x y : A) → then_some b x ≡ Some y → (b ≡ true) × (x ≡ y)
+pub given_parts : {A : Type 0} (b : Bool) (x y : A) → then_some b x ≡ Some y → (b ≡ true) × (x ≡ y)
 given_parts true x y e = (refl, same_Some x y e)
 given_parts false x y e = absurd (none-some y e)
 
@@ -309,7 +309,7 @@ conflict_rows_fit source t key period parent child rows are =
     (and_from _ _ (conflict_row_fits source t key period parent (is_some rows.base) rows.parent are.keyed are.parent)
     (and_from _ true (conflict_row_fits source t key period child (is_some rows.base) rows.child are.keyed are.child) refl))
 
-all_flat : {A B : Type 0} (P : B → Bool) (F : A → List B) (xs : List A) → AllByRecursion (λ x. list_all P (F x) ≡ true) xs → list_all P (flat_map F xs) ≡ true
+pub all_flat : {A B : Type 0} (P : B → Bool) (F : A → List B) (xs : List A) → AllByRecursion (λ x. list_all P (F x) ≡ true) xs → list_all P (flat_map F xs) ≡ true
 all_flat P F [] all = refl
 all_flat P F (x ∷ xs) all = all_append P (F x) (flat_map F xs) all.0 (all_flat P F xs all.1)
 
@@ -377,10 +377,10 @@ follow_less x [] follow = tt
 follow_less x (y ∷ ys) follow =
     (follow.0, each_if (λ (z : Hist). y.position < z.position) (λ (z : Hist). x.position < z.position) ys (λ z less. omega (arith, follow.0, less)) (follow_less y ys follow.1))
 
-abbrev at_position : List Hist → ℕ → Option Hist
+abbrev pub at_position : List Hist → ℕ → Option Hist
 at_position xs position = find (λ (x : Hist). x.position == position) xs
 
-each_found : (xs : List Hist) → Follow xs → AllByRecursion (λ (x : Hist). at_position xs x.position ≡ Some x) xs
+pub each_found : (xs : List Hist) → Follow xs → AllByRecursion (λ (x : Hist). at_position xs x.position ≡ Some x) xs
 each_found [] follow = tt
 each_found (x ∷ xs) follow = (first, behind xs (follow_less x xs follow) (each_found xs (follow_tail x xs follow)))
   where

@@ -20,7 +20,7 @@ use Rattle.wm_state.proofs.Logging.{all_at, log_of-found}
 use Rattle.wm_state.proofs.Ready.{tables_found}
 use Rattle.wm_state.proofs.Spaces.{SpaceIs, space_is}
 use Rattle.wm_view_rows.specs.Conflicts.{values_with}
-use Rattle.wm_view_rows.specs.History.{Follow, IsHistoryView, event_by, event_of, history_view}
+use Rattle.wm_view_rows.specs.History.{AreLogged, Follow, IsHistoryView, event_by, event_of, history_view}
 use Rattle.wm_view_rows.specs.Rows.{Event, history_rows}
 
 -- the entry at a position
@@ -97,26 +97,27 @@ same_event p x e same has = ap (event_with p) same ∙ ap with_row (same_row p e
     with_row : Option (List Value) → Event
     with_row row = record { key = e.key; from = e.from; till = e.till; row = row; kind = e.kind; moment = e.moment; user = e.user }
 
--- a table with history shows of each position the same
-same_at : (p : Parts) (tables : List Table) (table : ℕ) (o : Option Hist) (g : Option Entry) → has_history tables table ≡ true → option_map logged o ≡ option_and_then (λ (e : Entry). then_some (has_history tables e.table) (logged_as e)) g
-    → ((e : Entry) → g ≡ Some e → has_history tables e.table ≡ true → HasRow p e) → option_map (event_by p) (hist_picked table o) ≡ option_map event_of (picked table g)
-same_at p tables table None None history same has = refl
-same_at p tables table (Some x) None history same has = cc
-same_at p tables table o (Some e) history same has = by_tests (has_history tables e.table) refl (e.table == table) refl o same
+-- of each position a table with history has the same, by a function of the record and one of its entry
+same_at : {B : Type 0} (F : Hist → B) (G : Entry → B) (tables : List Table) (table : ℕ) (o : Option Hist) (g : Option Entry) → has_history tables table ≡ true
+    → option_map logged o ≡ option_and_then (λ (e : Entry). then_some (has_history tables e.table) (logged_as e)) g
+    → ((x : Hist) (e : Entry) → g ≡ Some e → has_history tables e.table ≡ true → logged x ≡ logged_as e → F x ≡ G e) → option_map F (hist_picked table o) ≡ option_map G (picked table g)
+same_at F G tables table None None history same alike = refl
+same_at F G tables table (Some x) None history same alike = cc
+same_at F G tables table o (Some e) history same alike = by_tests (has_history tables e.table) refl (e.table == table) refl o same
   where
     by_tests : (h : Bool) → has_history tables e.table ≡ h → (b : Bool) → (e.table == table) ≡ b → (o : Option Hist) → option_map logged o ≡ then_some h (logged_as e)
-        → option_map (event_by p) (hist_picked table o) ≡ option_map event_of (then_some b e)
+        → option_map F (hist_picked table o) ≡ option_map G (then_some b e)
     by_tests true kept b is None same = cc
     by_tests false kept true is None same = absurd (true≢false (sym history ∙ ap (has_history tables) (sym (eqb-true e.table table is)) ∙ kept))
     by_tests false kept false is None same = refl
     by_tests false kept b is (Some x) same = cc
-    by_tests true kept b is (Some x) same = ap (λ c. option_map (event_by p) (then_some c x)) (ap (λ n. n == table) (ap (λ (l : Logged). l.cells.table) equal) ∙ is) ∙ told b
+    by_tests true kept b is (Some x) same = ap (λ c. option_map F (then_some c x)) (ap (λ n. n == table) (ap (λ (l : Logged). l.cells.table) equal) ∙ is) ∙ told b
       where
         equal : logged x ≡ logged_as e
         equal = same_Some (logged x) (logged_as e) same
 
-        told : (b : Bool) → option_map (event_by p) (then_some b x) ≡ option_map event_of (then_some b e)
-        told true = ap Some (same_event p x e equal (has e refl kept))
+        told : (b : Bool) → option_map F (then_some b x) ≡ option_map G (then_some b e)
+        told true = ap Some (alike x e refl kept equal)
         told false = refl
 
 -- ---- records that stand one behind another
@@ -155,54 +156,87 @@ first_of k (x ∷ xs) ascend = by_position (cases_eq x.position k)
         let more : k + 1 ≤ x.position = (let le = ascend.0 in grind (arith, le, apart)) in
         Behind (x ∷ xs) (ap (λ b. cond b (Some x) (at k xs)) (ne_eqb x.position k apart) ∙ none_before (x.position + 1) k xs ascend.1 (omega (arith, more))) (more, ascend.1)
 
--- at each position, counted from one on, what is told of the record there is what is told of the entry
-abbrev Same : Parts → ℕ → ℕ → List Hist → List Entry → Type 0
-Same p table k xs es = (i : ℕ) → option_map (event_by p) (at (k + i) xs) ≡ option_map event_of (picked table (slice_get es i))
+-- at each position, counted from one on, a function of the record there gives what one of the entry does
+abbrev Same : {B : Type 0} → (Hist → B) → (Entry → B) → ℕ → ℕ → List Hist → List Entry → Type 0
+Same F G table k xs es = (i : ℕ) → option_map F (at (k + i) xs) ≡ option_map G (picked table (slice_get es i))
 
-none_left : (p : Parts) (table k : ℕ) (xs : List Hist) → AscendFrom k xs → Same p table k xs [] → xs ≡ []
-none_left p table k [] ascend same = refl
-none_left p table k (x ∷ xs) ascend same = absurd (none-some (event_by p x) (sym (sym (ap (λ b. option_map (event_by p) (cond b (Some x) (at (k + (x.position - k)) xs))) here) ∙ same (x.position - k))))
+none_left : {B : Type 0} (F : Hist → B) (G : Entry → B) (table k : ℕ) (xs : List Hist) → AscendFrom k xs → Same F G table k xs [] → xs ≡ []
+none_left F G table k [] ascend same = refl
+none_left F G table k (x ∷ xs) ascend same = absurd (none-some (F x) (sym (sym (ap (λ b. option_map F (cond b (Some x) (at (k + (x.position - k)) xs))) here) ∙ same (x.position - k))))
   where
     here : (x.position == (k + (x.position - k))) ≡ true
     here = eq-eqb x.position (k + (x.position - k)) (let le = ascend.0 in omega (arith, le))
 
 -- so it is of all of them, in their order
-all_same : (p : Parts) (table k : ℕ) (es : List Entry) (xs : List Hist) → AscendFrom k xs → Same p table k xs es → map (event_by p) xs ≡ map event_of (filter (λ (e : Entry). e.table == table) es)
-all_same p table k [] xs ascend same = ap (map (event_by p)) (none_left p table k xs ascend same)
-all_same p table k (e ∷ es) xs ascend same = by_first (all_same p table (k + 1) es) xs (first_of k xs ascend) same
+all_same : {B : Type 0} (F : Hist → B) (G : Entry → B) (table k : ℕ) (es : List Entry) (xs : List Hist) → AscendFrom k xs → Same F G table k xs es → map F xs ≡ map G (filter (λ (e : Entry). e.table == table) es)
+all_same F G table k [] xs ascend same = ap (map F) (none_left F G table k xs ascend same)
+all_same {B = B} F G table k (e ∷ es) xs ascend same = by_first (all_same F G table (k + 1) es) xs (first_of k xs ascend) same
   where
     Rest : Type 0
-    Rest = (ys : List Hist) → AscendFrom (k + 1) ys → Same p table (k + 1) ys es → map (event_by p) ys ≡ map event_of (filter (λ (d : Entry). d.table == table) es)
+    Rest = (ys : List Hist) → AscendFrom (k + 1) ys → Same F G table (k + 1) ys es → map F ys ≡ map G (filter (λ (d : Entry). d.table == table) es)
 
     -- the positions behind the first
-    shifted : (xs ys : List Hist) → ((i : ℕ) → at (k + suc i) xs ≡ at ((k + 1) + i) ys) → Same p table k xs (e ∷ es) → Same p table (k + 1) ys es
-    shifted xs ys there same i = sym (ap (option_map (event_by p)) (there i)) ∙ same (suc i)
+    shifted : (xs ys : List Hist) → ((i : ℕ) → at (k + suc i) xs ≡ at ((k + 1) + i) ys) → Same F G table k xs (e ∷ es) → Same F G table (k + 1) ys es
+    shifted xs ys there same i = sym (ap (option_map F) (there i)) ∙ same (suc i)
 
     next : (i : ℕ) → k + suc i ≡ (k + 1) + i
     next i = omega arith
 
-    first : (xs : List Hist) → Same p table k xs (e ∷ es) → option_map (event_by p) (at k xs) ≡ option_map event_of (then_some (e.table == table) e)
-    first xs same = ap (λ q. option_map (event_by p) (at q xs)) (start) ∙ same zero
+    first : (xs : List Hist) → Same F G table k xs (e ∷ es) → option_map F (at k xs) ≡ option_map G (then_some (e.table == table) e)
+    first xs same = ap (λ q. option_map F (at q xs)) (start) ∙ same zero
       where
         start : k ≡ k + zero
         start = omega arith
 
-    by_first : Rest → (xs : List Hist) → First k xs → Same p table k xs (e ∷ es) → map (event_by p) xs ≡ map event_of (filter (λ (d : Entry). d.table == table) (e ∷ es))
+    by_first : Rest → (xs : List Hist) → First k xs → Same F G table k xs (e ∷ es) → map F xs ≡ map G (filter (λ (d : Entry). d.table == table) (e ∷ es))
     by_first rest xs (Here x ys here ascend) same =
-        by_table (e.table == table) (sym (ap (λ b. option_map (event_by p) (cond b (Some x) (at k ys))) (eq-eqb x.position k here)) ∙ first (x ∷ ys) same)
+        by_table (e.table == table) (sym (ap (λ b. option_map F (cond b (Some x) (at k ys))) (eq-eqb x.position k here)) ∙ first (x ∷ ys) same)
         (rest ys ascend (shifted (x ∷ ys) ys (λ i. ap (λ q. at q (x ∷ ys)) (next i) ∙ ap (λ b. cond b (Some x) (at ((k + 1) + i) ys)) (ne_eqb x.position ((k + 1) + i) (λ other. omega (arith, here, other)))) same))
       where
-        by_table : (b : Bool) → Some (event_by p x) ≡ option_map event_of (then_some b e) → map (event_by p) ys ≡ map event_of (filter (λ (d : Entry). d.table == table) es)
-            → event_by p x ∷ map (event_by p) ys ≡ map event_of (cond b (e ∷ filter (λ (d : Entry). d.table == table) es) (filter (λ (d : Entry). d.table == table) es))
-        by_table true told rest = ap (λ d. d ∷ map (event_by p) ys) (same_Some (event_by p x) (event_of e) told) ∙ ap (λ ds. event_of e ∷ ds) rest
-        by_table false told rest = absurd (none-some (event_by p x) (sym told))
+        by_table : (b : Bool) → Some (F x) ≡ option_map G (then_some b e) → map F ys ≡ map G (filter (λ (d : Entry). d.table == table) es)
+            → F x ∷ map F ys ≡ map G (cond b (e ∷ filter (λ (d : Entry). d.table == table) es) (filter (λ (d : Entry). d.table == table) es))
+        by_table true told rest = ap (λ (d : B). d ∷ map F ys) (same_Some (F x) (G e) told) ∙ ap (λ (ds : List B). G e ∷ ds) rest
+        by_table false told rest = absurd (none-some (F x) (sym told))
     by_first rest xs (Behind ys none ascend) same =
-        by_table (e.table == table) (sym (ap (option_map (event_by p)) none) ∙ first ys same) (rest ys ascend (shifted ys ys (λ i. ap (λ q. at q ys) (next i)) same))
+        by_table (e.table == table) (sym (ap (option_map F) none) ∙ first ys same) (rest ys ascend (shifted ys ys (λ i. ap (λ q. at q ys) (next i)) same))
       where
-        by_table : (b : Bool) → None ≡ option_map event_of (then_some b e) → map (event_by p) ys ≡ map event_of (filter (λ (d : Entry). d.table == table) es)
-            → map (event_by p) ys ≡ map event_of (cond b (e ∷ filter (λ (d : Entry). d.table == table) es) (filter (λ (d : Entry). d.table == table) es))
-        by_table true told rest = absurd (none-some (event_of e) (sym (sym told)))
+        nothing : Option B
+        nothing = None
+
+        by_table : (b : Bool) → nothing ≡ option_map G (then_some b e) → map F ys ≡ map G (filter (λ (d : Entry). d.table == table) es)
+            → map F ys ≡ map G (cond b (e ∷ filter (λ (d : Entry). d.table == table) es) (filter (λ (d : Entry). d.table == table) es))
+        by_table true told rest = absurd (none-some (G e) (sym (sym told)))
         by_table false told rest = rest
+
+-- ---- the records of a log
+
+-- a table that keeps its history by its record does so in the state
+pub history_kept : (p : Parts) (d : Durable) (t : Table) → Stands p d → table_of p.tables t.number ≡ Some t → t.history ≡ true → has_history d.tables t.number ≡ true
+history_kept p d t st there history = ap (λ (o : Option Table). option_map_or (λ (u : Table). u.history) o false) (tables_found p d st.tables t.number ∙ there) ∙ history
+
+-- a function of a record gives of the records of a log on a table with history what one of an entry gives of its entries there
+logged_alike : {B : Type 0} (F : Hist → B) (G : Entry → B) (p : Parts) (d : Durable) (n : ℕ) (w : Workspace) (a : Space) (t : Table) (xs : List Hist) → Stands p d → workspace_of d.spaces n ≡ Some w → space_of p.spaces n ≡ Some a
+    → table_of p.tables t.number ≡ Some t → t.history ≡ true → AreLogged p a.number t.number xs
+    → ((x : Hist) (e : Entry) (i : ℕ) → slice_get (log_of d.spaces n) i ≡ Some e → has_history d.tables e.table ≡ true → logged x ≡ logged_as e → F x ≡ G e)
+    → map F xs ≡ map G (filter (λ (e : Entry). e.table == t.number) w.lists.log)
+logged_alike F G p d n w a t xs st found recorded there history are_logged alike = all_same F G t.number 0 w.lists.log xs (ascend_all xs are_logged.follow) same
+  where
+    space : SpaceIs p d n a
+    space = space_is p d n a st recorded
+
+    differs : differ same_position p.hists ≡ true
+    differs = (and_parts (differ same_position p.hists) _ (ruled p st.rules).hists).0
+
+    same : Same F G t.number 0 xs w.lists.log
+    same i =
+        ap (option_map F) (ap (λ q. at q xs) (omega arith) ∙ are_logged.same i ∙ ap (λ m. hist_on p.hists m t.number i) space.is.record_number ∙ one_on n t.number i p.hists differs)
+        ∙ same_at F G d.tables t.number (hist_at p.hists n i) (slice_get (log_of d.spaces n) i) (history_kept p d t st there history) (st.hists.same n i) (λ x e is_there. alike x e i is_there)
+        ∙ ap (λ (es : List Entry). option_map G (picked t.number (slice_get es i))) (log_of-found d.spaces n w found)
+
+-- the records have what the entries have
+pub logged_same : (p : Parts) (d : Durable) (n : ℕ) (w : Workspace) (a : Space) (t : Table) (xs : List Hist) → Stands p d → workspace_of d.spaces n ≡ Some w → space_of p.spaces n ≡ Some a → table_of p.tables t.number ≡ Some t → t.history ≡ true
+    → AreLogged p a.number t.number xs → map logged xs ≡ map logged_as (filter (λ (e : Entry). e.table == t.number) w.lists.log)
+logged_same p d n w a t xs st found recorded there history are_logged = logged_alike logged logged_as p d n w a t xs st found recorded there history are_logged (λ x e i is_there kept same. same)
 
 -- ---- the view
 
@@ -212,7 +246,7 @@ pub history_view_is : (p : Parts) (d : Durable) (n : ℕ) (w : Workspace) (a : S
 history_view_is p d n w a t rows st found recorded there history view =
     view.are
     ∙ ap (λ (f : SpaceFields). history_rows f.name t (map (event_by p) view.logged)) fields
-    ∙ ap (history_rows w.name t) (all_same p t.number 0 w.lists.log view.logged (ascend_all view.logged view.are_logged.follow) same)
+    ∙ ap (history_rows w.name t) (logged_alike (event_by p) event_of p d n w a t view.logged st found recorded there history view.are_logged told)
   where
     space : SpaceIs p d n a
     space = space_is p d n a st recorded
@@ -220,17 +254,5 @@ history_view_is p d n w a t rows st found recorded there history view =
     fields : fields_of a ≡ fields_in w
     fields = space.is.fields ∙ ap fields_in (same_Some space.workspace w (sym space.is.found ∙ found))
 
-    kept : has_history d.tables t.number ≡ true
-    kept = ap (λ (o : Option Table). option_map_or (λ (u : Table). u.history) o false) (tables_found p d st.tables t.number ∙ there) ∙ history
-
-    log : log_of d.spaces n ≡ w.lists.log
-    log = log_of-found d.spaces n w found
-
-    differs : differ same_position p.hists ≡ true
-    differs = (and_parts (differ same_position p.hists) _ (ruled p st.rules).hists).0
-
-    same : Same p t.number 0 view.logged w.lists.log
-    same i =
-        ap (option_map (event_by p)) (ap (λ q. at q view.logged) (omega arith) ∙ view.are_logged.same i ∙ ap (λ m. hist_on p.hists m t.number i) space.is.record_number ∙ one_on n t.number i p.hists differs)
-        ∙ same_at p d.tables t.number (hist_at p.hists n i) (slice_get (log_of d.spaces n) i) kept (st.hists.same n i) (λ e is_there. all_at (λ (x : Entry). has_history d.tables x.table ≡ true → HasRow p x) (log_of d.spaces n) i e (st.rows.logs n) is_there)
-        ∙ ap (λ (es : List Entry). option_map event_of (picked t.number (slice_get es i))) log
+    told : (x : Hist) (e : Entry) (i : ℕ) → slice_get (log_of d.spaces n) i ≡ Some e → has_history d.tables e.table ≡ true → logged x ≡ logged_as e → event_by p x ≡ event_of e
+    told x e i is_there kept same = same_event p x e same (all_at (λ (y : Entry). has_history d.tables y.table ≡ true → HasRow p y) (log_of d.spaces n) i e (st.rows.logs n) is_there kept)

@@ -85,6 +85,9 @@ keys_more places key made n cs less =
 more : {A : Type 0} (xs ys before behind : List A) (e : A) → before ≡ xs ++ ys → behind ≡ before ++ e ∷ [] → behind ≡ xs ++ (ys ++ e ∷ [])
 more {A = A} xs ys before behind e is next = next ∙ ap (λ (l : List A). l ++ e ∷ []) is ∙ append_assoc xs ys (e ∷ [])
 
+pub two_more : {A : Type 0} (xs x1 x2 : List A) (a b : A) → x1 ≡ xs ++ a ∷ [] → x2 ≡ x1 ++ b ∷ [] → x2 ≡ xs ++ a ∷ b ∷ []
+two_more xs x1 x2 a b h1 h2 = more xs (a ∷ []) x1 x2 b h1 h2
+
 pub three_more : {A : Type 0} (xs x1 x2 x3 : List A) (a b c : A) → x1 ≡ xs ++ a ∷ [] → x2 ≡ x1 ++ b ∷ [] → x3 ≡ x2 ++ c ∷ [] → x3 ≡ xs ++ a ∷ b ∷ c ∷ []
 three_more xs x1 x2 x3 a b c h1 h2 h3 = more xs (a ∷ b ∷ []) x2 x3 c (more xs (a ∷ []) x1 x2 b h1 h2) h3
 

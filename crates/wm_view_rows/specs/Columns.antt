@@ -5,7 +5,7 @@ use Rattle.wm_spec.specs.declared.record.table.Table.{Table}
 use Rattle.wm_decided.specs.Keys.{key_columns}
 use Rattle.wm_typing.specs.Columns.{columns_of_table, declared_column, valid_column}
 use Rattle.wm_view_rows.specs.declared.view.View.{View}
-use Rattle.wm_view_rows.specs.declared.view.View.TheVariants.{Rows, Conflicts, History, Locks}
+use Rattle.wm_view_rows.specs.declared.view.View.TheVariants.{Rows, Conflicts, Differences, History, Locks}
 
 abbrev pub text_column : List ℕ → List ℕ → Column
 text_column source name = record { source = source; name = name; kind = 2 }
@@ -37,5 +37,6 @@ lock_columns source t =
 abbrev pub columns_of_view : View → List ℕ → Table → List Column
 columns_of_view Rows source t = columns_of_table source t
 columns_of_view Conflicts source t = text_column source (codes "WM_WORKSPACE") ∷ (columns_of_table source t ++ text_column source (codes "WM_DELETED") ∷ [])
+columns_of_view Differences source t = columns_of_table source t ++ text_column source (codes "WM_DIFFVER") ∷ text_column source (codes "WM_CODE") ∷ []
 columns_of_view History source t = columns_of_table source t ++ history_columns source
 columns_of_view Locks source t = lock_columns source t

@@ -4,4 +4,5 @@ pub mod Columns
 pub mod Rows
 pub mod Given
 pub mod Conflicts
+pub mod Differences
 pub mod History

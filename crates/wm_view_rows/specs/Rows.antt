@@ -1,5 +1,5 @@
 -- The rows of views.
-use Rattle.std.specs.Prelude.{ℕ, ◌+◌, ◌==◌, ◌&&◌, Bool, true, false, nat_lt, min, if◌then◌else◌, List, [], ◌∷◌, ◌++◌, Option, Some, None, option_map, is_some, codes}
+use Rattle.std.specs.Prelude.{ℕ, ◌+◌, ◌==◌, ◌&&◌, Bool, true, false, nat_lt, min, if◌then◌else◌, List, [], ◌∷◌, ◌++◌, Option, Some, None, option_map, is_some, unwrap_or, codes}
 use Rattle.std.specs.List.{find}
 use Rattle.std.specs.Ordering.{is_eq}
 use Rattle.wm_base.specs.Key.{key_order}
@@ -10,6 +10,7 @@ use Rattle.wm_base.specs.declared.kind.Kind.TheVariants.{Insert, Update, Delete}
 use Rattle.wm_base.specs.declared.row.Row.{Row}
 use Rattle.wm_base.specs.declared.value.Value.{Value}
 use Rattle.wm_base.specs.declared.value.Value.TheVariants as values
+use Rattle.wm_net.specs.Conflicts.{Stamps}
 use Rattle.wm_spec.specs.declared.record.column.TableColumn.{TableColumn}
 use Rattle.wm_spec.specs.declared.record.table.Table.{Table}
 
@@ -46,7 +47,8 @@ abbrev pub conflict_row : Table → List Value → Span → List ℕ → Bool �
 conflict_row t key period name based row =
     record { values = values.Text name ∷ (shown_values t key period row ++ values.Text (deleted_word based row) ∷ []) }
 
--- the values of the rows that stand on the three sides of a stretch of conflict, or none
+-- the values of the rows that stand on the three sides of a stretch of conflict, or none; of a difference the base is the common point,
+-- and the others are the first and the second
 pub record SideRows : Type 0 where
   pub base : Option (List Value)
   pub parent : Option (List Value)
@@ -58,6 +60,30 @@ conflict_rows t key period parent child rows =
     conflict_row t key period (codes "BASE") false rows.base
     ∷ conflict_row t key period parent (is_some rows.base) rows.parent
     ∷ conflict_row t key period child (is_some rows.base) rows.child
+    ∷ []
+
+-- ---- differences
+
+-- what became of a row of one stamp at a point: it stands, another one stands, it is gone, there is a new one, or there was none and is none
+abbrev pub change_word : Option ℕ → Option ℕ → List ℕ
+change_word None None = codes "NE"
+change_word None (Some stamp) = codes "I"
+change_word (Some stamp) None = codes "D"
+change_word (Some one) (Some other) = if one == other then codes "NC" else codes "U"
+
+-- the point by its name: its workspace and its savepoint, LATEST where that is what is newest
+abbrev pub point_name : List ℕ → Option (List ℕ) → List ℕ
+point_name workspace savepoint = workspace ++ (codes ", " ++ unwrap_or savepoint (codes "LATEST"))
+
+abbrev pub difference_row : Table → List Value → Span → List ℕ → List ℕ → Option (List Value) → Row
+difference_row t key period name word row = record { values = shown_values t key period row ++ values.Text name ∷ values.Text word ∷ [] }
+
+-- a row for the common point and for each of the two, under their names
+abbrev pub difference_rows : Table → List Value → Span → List ℕ → List ℕ → Stamps → SideRows → List Row
+difference_rows t key period first second stamps rows =
+    difference_row t key period (codes "DiffBase") (change_word stamps.base stamps.base) rows.base
+    ∷ difference_row t key period first (change_word stamps.base stamps.parent) rows.parent
+    ∷ difference_row t key period second (change_word stamps.base stamps.child) rows.child
     ∷ []
 
 -- ---- history

@@ -45,6 +45,16 @@ fn conflict_columns(alloc: Global, source: &Name, table: &Table) -> Result<Colum
     Ok(Columns::from_vec(list))
 }
 
+/// The columns of differences: those of the table, the point, and what became of the row there.
+fn difference_columns(alloc: Global, source: &Name, table: &Table) -> Result<Columns, Memory>
+    ensures { IfOk result (λ columns. columns ≡ columns_of_table source.now table.now ++ text_column source.now (codes "WM_DIFFVER") ∷ text_column source.now (codes "WM_CODE") ∷ []) }
+{
+    let mut list = columns_of_table(alloc, source, table)?.into_vec();
+    push_column(alloc, source, b"WM_DIFFVER", TEXT, &mut list)?;
+    push_column(alloc, source, b"WM_CODE", TEXT, &mut list)?;
+    Ok(Columns::from_vec(list))
+}
+
 /// Adds the columns of what is told of a change.
 fn push_told(alloc: Global, source: &Name, list: &mut Vec<Column>) -> Result<(), Memory>
     ensures { OnOk result (list.new.items ≡ list.old.items ++ history_columns source.now) }
@@ -113,6 +123,7 @@ pub fn columns_of_view(
     match view {
         View::Rows => columns_of_table(alloc, source, table),
         View::Conflicts => conflict_columns(alloc, source, table),
+        View::Differences => difference_columns(alloc, source, table),
         View::History => history_columns(alloc, source, table),
         View::Locks => lock_columns(alloc, source, table),
     }

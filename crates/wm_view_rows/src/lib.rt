@@ -3,5 +3,6 @@
 #![tactic(auto)]
 
 pub mod columns;
+pub mod differences;
 pub mod rows;
 pub mod view;

@@ -12,14 +12,15 @@ use wm_guard::barring::word;
 use wm_listing::RowList;
 use wm_spec::record::{CellRange, Lock, Table};
 
-/// The names of a workspace and its parent.
+/// The names of a workspace and its parent, or of the second of two points and the first.
 #[derive(Clone, Copy)]
 pub struct Names<'a> {
     pub parent: &'a Name,
     pub child: &'a Name,
 }
 
-/// The values of the rows that stand on the three sides of a conflict, where one does.
+/// The values of the rows that stand on the three sides of a conflict, where one does. Of a difference the base is the
+/// common point, and the others are the first and the second.
 #[derive(Clone, Copy)]
 pub struct Sides<'a> {
     pub base: Option<&'a Values>,
@@ -91,7 +92,7 @@ fn push_side(
 }
 
 /// Adds them with the period behind them, where the table has valid time.
-fn push_shown(
+pub(crate) fn push_shown(
     alloc: Global,
     table: &Table,
     key: &Key,
@@ -109,7 +110,7 @@ fn push_shown(
 }
 
 /// Adds a text.
-fn push_text(alloc: Global, bytes: &[u8], values: &mut Values) -> Result<(), Memory>
+pub(crate) fn push_text(alloc: Global, bytes: &[u8], values: &mut Values) -> Result<(), Memory>
     ensures { OnOk result (values.new ≡ values.old ++ Value.Text bytes.now ∷ []) }
 {
     values.push(Value::Text(Name::copy_of(alloc, bytes)?))

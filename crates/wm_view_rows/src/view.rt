@@ -2,11 +2,12 @@
 ghost use Rattle.std.specs.Prelude.{◌≡◌};
 ghost use Rattle.wm_view_rows.specs.Views.{table_sought, view_named};
 
-/// What is shown of a table: its rows, their conflicts, its history, or the locks on it.
+/// What is shown of a table: its rows, their conflicts, the differences of two points, its history, or the locks on it.
 #[derive(Clone, Copy)]
 pub enum View {
     Rows,
     Conflicts,
+    Differences,
     History,
     Locks,
 }
@@ -17,6 +18,8 @@ pub fn view_named(name: &[u8]) -> View
 {
     if name.ends_with(b"_CONF") {
         View::Conflicts
+    } else if name.ends_with(b"_DIFF") {
+        View::Differences
     } else if name.ends_with(b"_HIST") {
         View::History
     } else if name.ends_with(b"_LOCK") {
@@ -33,6 +36,8 @@ pub fn table_sought(name: &[u8]) -> &[u8]
     match view_named(name) {
         View::Rows => name,
         // The ends have one length.
-        View::Conflicts | View::History | View::Locks => &name[..name.len().saturating_sub(5)],
+        View::Conflicts | View::Differences | View::History | View::Locks => {
+            &name[..name.len().saturating_sub(5)]
+        }
     }
 }

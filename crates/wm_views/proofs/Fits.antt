@@ -15,26 +15,42 @@ use Rattle.wm_spec.specs.declared.record.table.Table.{Table}
 use Rattle.wm_typing.specs.Columns.{columns_of_table}
 use Rattle.wm_model.proofs.Named.{named_is}
 use Rattle.wm_model.specs.Planning.{tables_in}
-use Rattle.wm_model.specs.Sources.{AreConflicts, AreListed, IsSeen, Look, recorded_name}
-use Rattle.wm_model.specs.Step.{source_name}
+use Rattle.wm_model.specs.Sources.{AreCompared, AreConflicts, AreDifferent, AreListed, IsRead, IsSeen, Look, Reading, Version, Day, recorded_name, versions_of}
+use Rattle.wm_model.specs.Step.{source_name, viewpoint_name}
 use Rattle.wm_chosen.proofs.Seen.{shown_fits}
 use Rattle.wm_chosen.proofs.Stood.{showing_all}
+use Rattle.wm_state.specs.State.{Difference}
+use Rattle.wm_view_rows.proofs.Differing.{differences_fit}
 use Rattle.wm_view_rows.proofs.Fits.{conflicts_fit, history_fits, locks_fit}
 use Rattle.wm_view_rows.specs.Columns.{columns_of_view}
+use Rattle.wm_view_rows.specs.Differences.{Versions}
 use Rattle.wm_view_rows.specs.Views.{table_sought, view_named}
 use Rattle.wm_view_rows.specs.declared.view.View.{View}
-use Rattle.wm_view_rows.specs.declared.view.View.TheVariants.{Rows, Conflicts, History, Locks}
+use Rattle.wm_view_rows.specs.declared.view.View.TheVariants.{Rows, Conflicts, Differences, History, Locks}
+use Rattle.wm_views.proofs.Dated.{dated_fits}
 
 -- what is seen of a table fits the columns of what is shown of it
 pub seen_fits : (rs : List Stored) (look : Look) (view : View) (t : Table) (source : List ℕ) (rows : List Row) → keep_rules (parts_of rs) ≡ true → table_of (parts_of rs).tables t.number ≡ Some t → IsSeen (parts_of rs) look view t rows
     → list_all (fits (columns_of_view view source t)) rows ≡ true
-seen_fits rs look Rows t source rows rules there are =
-    showing_all (fits (columns_of_table source t)) (parts_of rs) look.version t (look.period t) rows rules there are (λ key row is. shown_fits source t (look.period t) key row is)
+seen_fits rs look Rows t source rows rules there are = by_reading (look.reading t) are
+  where
+    by_reading : (x : Reading) → IsRead (parts_of rs) look.home x t (look.period t) rows → list_all (fits (columns_of_table source t)) rows ≡ true
+    by_reading (Version version) is = showing_all (fits (columns_of_table source t)) (parts_of rs) version t (look.period t) rows rules there is (λ key row shown. shown_fits source t (look.period t) key row shown)
+    by_reading (Day date) is = dated_fits (parts_of rs) look.home date t (look.period t) source rows rules there is
 seen_fits rs look Conflicts t source rows rules there are = by_family look.family are
   where
     by_family : (o : Option (Space × Space)) → AreConflicts (parts_of rs) o t rows → list_all (fits (columns_of_view Conflicts source t)) rows ≡ true
     by_family None none = ap (list_all (fits (columns_of_view Conflicts source t))) none
     by_family (Some x) is = conflicts_fit (parts_of rs) x.0 x.1 t source rows rules there is
+seen_fits rs look Differences t source rows rules there are = by_points look.difference are
+  where
+    by_versions : (d : Difference) (o : Option Versions) → AreCompared (parts_of rs) d o t rows → list_all (fits (columns_of_view Differences source t)) rows ≡ true
+    by_versions d None none = ap (list_all (fits (columns_of_view Differences source t))) none
+    by_versions d (Some v) is = differences_fit (parts_of rs) v (viewpoint_name d.first) (viewpoint_name d.second) t source rows rules there is
+
+    by_points : (o : Option Difference) → AreDifferent (parts_of rs) o t rows → list_all (fits (columns_of_view Differences source t)) rows ≡ true
+    by_points None none = ap (list_all (fits (columns_of_view Differences source t))) none
+    by_points (Some d) is = by_versions d (versions_of (parts_of rs) d) is
 seen_fits rs look History t source rows rules there are = history_fits (parts_of rs) look.home t source rows rules there are
 seen_fits rs look Locks t source rows rules there are = locks_fit (parts_of rs) (recorded_name (parts_of rs)) t source rows rules there are
 

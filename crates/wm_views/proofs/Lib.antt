@@ -1,4 +1,7 @@
+pub mod Dated
 pub mod Fits
-pub mod Sourcing
+pub mod Losing
 pub mod Narrowing
+pub mod Pointing
 pub mod Querying
+pub mod Sourcing

@@ -1,11 +1,13 @@
 -- A query whose conditions fix keys answers over the rows of these keys what it answers over all rows.
-use Rattle.std.proofs.Common.{◌≡◌, ℕ, ◌+◌, ◌<◌, ◌≤◌, Bool, true, if◌then◌else◌, List, [], ◌∷◌, ◌++◌, length, map, drop, get_or, Option, Some, None, Result, Ok, Err, IfOk, IfSome, append-nil, append_assoc, length-append, arith, refl, sym, ap, subst, ◌∙◌}
+use Rattle.std.proofs.Common.{◌≡◌, ℕ, ◌+◌, ◌<◌, ◌≤◌, Bool, true, false, if◌then◌else◌, List, [], ◌∷◌, ◌++◌, length, map, drop, get_or, Option, Some, None, is_none, Result, Ok, Err, IfOk, IfSome, append-nil, append_assoc, length-append, arith, refl, sym, ap, subst, ◌∙◌}
+use Rattle.std.proofs.lemmas.Bool.{true≢false}
 use Rattle.std.proofs.lemmas.List.{drop_all, length-map}
 use Rattle.std.specs.List.{list_all}
 use Rattle.std.specs.Option.{option_map_or}
 use Rattle.wm_syntax.specs.Trees.{Query, Src}
 use Rattle.wm_listing.specs.declared.columns.Column.{Column}
 use Rattle.wm_listing.specs.declared.listing.Listing.{Listing as Source}
+use Rattle.wm_base.specs.Period.{Span}
 use Rattle.wm_base.specs.declared.row.Row.{Row}
 use Rattle.wm_syntax.specs.declared.query.Src.{Src as SrcNode}
 use Rattle.wm_base.specs.declared.value.Value.{Value}
@@ -14,7 +16,7 @@ use Rattle.wm_graph.specs.Parts.{Parts, parts_of, table_of}
 use Rattle.wm_graph.specs.Rules.{is_key, is_table, keep_rules, key_of}
 use Rattle.wm_model.proofs.Named.{named_is}
 use Rattle.wm_model.specs.Planning.{tables_in}
-use Rattle.wm_model.specs.Sources.{AreConflicts, AreListed, IsListed, IsSeen, Look, recorded_name}
+use Rattle.wm_model.specs.Sources.{AreConflicts, AreDifferent, AreListed, IsListed, IsRead, IsSeen, Look, Reading, Version, Day, recorded_name}
 use Rattle.wm_model.specs.Step.{answer_rows, columns_in, lost_source, source_name, table_asked}
 use Rattle.wm_select.proofs.NarrowLemmas.{answer_narrowed}
 use Rattle.wm_joining.proofs.NarrowLemmas.{narrowed_columns}
@@ -25,11 +27,14 @@ use Rattle.wm_spec.specs.Conditions.{fits}
 use Rattle.wm_spec.specs.declared.record.stored.Stored.{Stored}
 use Rattle.wm_spec.specs.declared.record.table.Table.{Table}
 use Rattle.wm_state.proofs.Laying.{key_itself}
+use Rattle.wm_state.specs.Listing.{IsShowing}
+use Rattle.wm_version_rows.specs.Listing.{IsKeyShowing}
+use Rattle.wm_dated.specs.Dated.{IsDatedShowing}
 use Rattle.wm_typing.specs.Columns.{columns_of_table, declared_column, valid_column}
 use Rattle.wm_view_rows.specs.Columns.{columns_of_view}
 use Rattle.wm_view_rows.specs.Views.{table_sought, view_named}
 use Rattle.wm_view_rows.specs.declared.view.View.{View}
-use Rattle.wm_view_rows.specs.declared.view.View.TheVariants.{Rows, Conflicts, History, Locks}
+use Rattle.wm_view_rows.specs.declared.view.View.TheVariants.{Rows, Conflicts, Differences, History, Locks}
 use Rattle.wm_views.proofs.Fits.{rows_listed, seen_fits}
 use Rattle.wm_chosen.proofs.KeyRows.{rows_under_key}
 use Rattle.wm_chosen.proofs.Listable.{is_showing, rows_with}
@@ -43,7 +48,7 @@ use Rattle.wm_plan.specs.Views.{answer_view}
 use Rattle.wm_plan.specs.declared.answer.Answer.{Answer as AnswerNode}
 use Rattle.wm_base.specs.declared.memory.Memory.{Memory}
 use Rattle.wm_views.specs.Looking.{IsAnswered}
-use Rattle.wm_views.specs.Narrowed.{IsListedFor, AreListedFor, AreShown, may_narrow}
+use Rattle.wm_views.specs.Narrowed.{IsListedFor, AreHeld, AreListedFor, AreShown, IsKeyRead, may_narrow}
 
 -- ---- one source
 
@@ -87,19 +92,27 @@ seen_whole rs look view t keeps before l rows = record {
 has_seen : (rs : List Stored) (look : Look) (view : View) (name : List ℕ) (t : Table) (keeps : Row → Bool) (before : ℕ) (l : Source) (key : Option (List Value)) → keep_rules (parts_of rs) ≡ true → table_of (parts_of rs).tables t.number ≡ Some t
     → l.columns ≡ columns_of_view view name t → IfSome key (FixesKeyAt t keeps before) → AreShown (parts_of rs) look view t key l.rows → HasSeen rs look view t keeps before l
 has_seen rs look Rows name t keeps before l None rules there are fixed rows = seen_whole rs look Rows t keeps before l rows
-has_seen rs look Rows name t keeps before l (Some key) rules there are fixed rows = record {
-  all = record { columns = l.columns; rows = rows_with (parts_of rs) look.version t.number t.valid (look.period t) key };
-  columns = refl;
-  rows = is_showing (parts_of rs) look.version t.number t.valid (look.period t) key;
-  narrowed = record {
-    passes = λ row. is_key key (key_of t row.values);
-    columns = refl;
-    same = rows_under_key (parts_of rs) look.version t (look.period t) key l.rows rules there rows;
-    sound = λ one row other behind e kept. ap (is_key key) (fixed.under one row other behind (subst (λ n. length t.columns ≤ n) (ap (λ (cs : List Column). length cs) (sym are) ∙ sym e) (table_wide name t)) kept) ∙ key_itself key;
-  };
-}
+has_seen rs look Rows name t keeps before l (Some key) rules there are fixed rows = by_reading (look.reading t) refl rows
+  where
+    by_reading : (x : Reading) → look.reading t ≡ x → IsKeyRead (parts_of rs) x t (look.period t) key l.rows → HasSeen rs look Rows t keeps before l
+    by_reading (Day date) at is = absurd is
+    by_reading (Version version) at is = record {
+      all = record { columns = l.columns; rows = rows_with (parts_of rs) version t.number t.valid (look.period t) key };
+      columns = refl;
+      rows =
+          subst (λ (x : Reading). IsRead (parts_of rs) look.home x t (look.period t) (rows_with (parts_of rs) version t.number t.valid (look.period t) key)) (sym at)
+          (is_showing (parts_of rs) version t.number t.valid (look.period t) key);
+      narrowed = record {
+        passes = λ row. is_key key (key_of t row.values);
+        columns = refl;
+        same = rows_under_key (parts_of rs) version t (look.period t) key l.rows rules there is;
+        sound = λ one row other behind e kept. ap (is_key key) (fixed.under one row other behind (subst (λ n. length t.columns ≤ n) (ap (λ (cs : List Column). length cs) (sym are) ∙ sym e) (table_wide name t)) kept) ∙ key_itself key;
+      };
+    }
 has_seen rs look Conflicts name t keeps before l None rules there are fixed rows = seen_whole rs look Conflicts t keeps before l rows
 has_seen rs look Conflicts name t keeps before l (Some key) rules there are fixed rows = absurd rows
+has_seen rs look Differences name t keeps before l None rules there are fixed rows = seen_whole rs look Differences t keeps before l rows
+has_seen rs look Differences name t keeps before l (Some key) rules there are fixed rows = absurd rows
 has_seen rs look History name t keeps before l None rules there are fixed rows = seen_whole rs look History t keeps before l rows
 has_seen rs look History name t keeps before l (Some key) rules there are fixed rows = absurd rows
 has_seen rs look Locks name t keeps before l None rules there are fixed rows = seen_whole rs look Locks t keeps before l rows
@@ -115,11 +128,17 @@ has_whole rs look keeps before x l rules is =
 shown_fit : (rs : List Stored) (look : Look) (view : View) (t : Table) (source : List ℕ) (key : Option (List Value)) (rows : List Row) → keep_rules (parts_of rs) ≡ true → table_of (parts_of rs).tables t.number ≡ Some t
     → AreShown (parts_of rs) look view t key rows → list_all (fits (columns_of_view view source t)) rows ≡ true
 shown_fit rs look Rows t source None rows rules there are = seen_fits rs look Rows t source rows rules there are
-shown_fit rs look Rows t source (Some key) rows rules there are =
-    ap (list_all (fits (columns_of_table source t))) are.shown
-    ∙ key_showing_all (fits (columns_of_table source t)) (parts_of rs) look.version t (look.period t) key are.stretches rules there are.are (λ row is. shown_fits source t (look.period t) key row is)
+shown_fit rs look Rows t source (Some key) rows rules there are = by_reading (look.reading t) are
+  where
+    by_reading : (x : Reading) → IsKeyRead (parts_of rs) x t (look.period t) key rows → list_all (fits (columns_of_table source t)) rows ≡ true
+    by_reading (Day date) is = absurd is
+    by_reading (Version version) is =
+        ap (list_all (fits (columns_of_table source t))) is.shown
+        ∙ key_showing_all (fits (columns_of_table source t)) (parts_of rs) version t (look.period t) key is.stretches rules there is.are (λ row shown. shown_fits source t (look.period t) key row shown)
 shown_fit rs look Conflicts t source None rows rules there are = seen_fits rs look Conflicts t source rows rules there are
 shown_fit rs look Conflicts t source (Some key) rows rules there are = absurd are
+shown_fit rs look Differences t source None rows rules there are = seen_fits rs look Differences t source rows rules there are
+shown_fit rs look Differences t source (Some key) rows rules there are = absurd are
 shown_fit rs look History t source None rows rules there are = seen_fits rs look History t source rows rules there are
 shown_fit rs look History t source (Some key) rows rules there are = absurd are
 shown_fit rs look Locks t source None rows rules there are = seen_fits rs look Locks t source rows rules there are
@@ -188,27 +207,59 @@ answer_listed (Ok a) rs look query columns ls rules own are is =
     record { listings = whole.alls; listed = whole.listed; is = is ∙ ap answer_rows whole.same }
 answer_listed (Err memory) rs look query columns ls rules own are is = tt
 
+-- ---- what is read
+
+module _ (p : Parts) (look : Look) (t : Table) where
+  -- what a version shows is shown, where it is read
+  pub version_seen : (key : Option (List Value)) (version : ℕ) (period : Span) (r : Result (List Row) Memory) → Version version ≡ look.reading t → period ≡ look.period t → IfOk r (λ rows. AreHeld p version t period key rows)
+      → IfOk r (λ rows. AreShown p look Rows t key rows)
+  version_seen None version period r at within held =
+      subst (λ (x : Reading). IfOk r (λ (rows : List Row). IsRead p look.home x t (look.period t) rows)) at (subst (λ (s : Span). IfOk r (λ (rows : List Row). IsShowing p version t.number t.valid s rows)) within held)
+  version_seen (Some key) version period r at within held =
+      subst (λ (x : Reading). IfOk r (λ (rows : List Row). IsKeyRead p x t (look.period t) key rows)) at (subst (λ (s : Span). IfOk r (λ (rows : List Row). IsKeyShowing p version t.number t.valid s key rows)) within held)
+
+  -- and so is what stood on a date, which is listed whole
+  pub day_seen : (key : Option (List Value)) (date : ℕ) (period : Span) (r : Result (List Row) Memory) → Day date ≡ look.reading t → period ≡ look.period t → may_narrow Rows (look.reading t) key ≡ true
+      → IfOk r (λ rows. IsDatedShowing p look.home date t period rows) → IfOk r (λ rows. AreShown p look Rows t key rows)
+  day_seen None date period r at within whole stood =
+      subst (λ (x : Reading). IfOk r (λ (rows : List Row). IsRead p look.home x t (look.period t) rows)) at (subst (λ (s : Span). IfOk r (λ (rows : List Row). IsDatedShowing p look.home date t s rows)) within stood)
+  day_seen (Some key) date period r at within whole stood = absurd (true≢false (sym whole ∙ ap (λ (x : Reading). may_narrow Rows x (Some key)) (sym at)))
+
 -- ---- a view is listed whole
 
-pub whole_conflicts : (p : Parts) (look : Look) (t : Table) (key : Option (List Value)) (r : Result (List Row) Memory) → may_narrow Conflicts key ≡ true → IfOk r (λ rows. AreConflicts p look.family t rows)
-    → IfOk r (λ rows. AreShown p look Conflicts t key rows)
-whole_conflicts p look t None r whole are = are
-whole_conflicts p look t (Some key) r whole are = absurd (cc)
+module _ (p : Parts) (look : Look) (t : Table) (key : Option (List Value)) (r : Result (List Row) Memory) where
+  pub whole_conflicts : may_narrow Conflicts (look.reading t) key ≡ true → IfOk r (λ rows. AreConflicts p look.family t rows) → IfOk r (λ rows. AreShown p look Conflicts t key rows)
+  whole_conflicts = by_key key
+    where
+      by_key : (o : Option (List Value)) → is_none o ≡ true → IfOk r (λ rows. AreConflicts p look.family t rows) → IfOk r (λ rows. AreShown p look Conflicts t o rows)
+      by_key None whole are = are
+      by_key (Some k) whole are = absurd (cc)
 
-pub whole_history : (p : Parts) (look : Look) (t : Table) (key : Option (List Value)) (r : Result (List Row) Memory) → may_narrow History key ≡ true → IfOk r (λ rows. IsHistoryView p look.home t rows)
-    → IfOk r (λ rows. AreShown p look History t key rows)
-whole_history p look t None r whole are = are
-whole_history p look t (Some key) r whole are = absurd (cc)
+  pub whole_differences : may_narrow Differences (look.reading t) key ≡ true → IfOk r (λ rows. AreDifferent p look.difference t rows) → IfOk r (λ rows. AreShown p look Differences t key rows)
+  whole_differences = by_key key
+    where
+      by_key : (o : Option (List Value)) → is_none o ≡ true → IfOk r (λ rows. AreDifferent p look.difference t rows) → IfOk r (λ rows. AreShown p look Differences t o rows)
+      by_key None whole are = are
+      by_key (Some k) whole are = absurd (cc)
 
-pub whole_locks : (p : Parts) (look : Look) (t : Table) (key : Option (List Value)) (r : Result (List Row) Memory) → may_narrow Locks key ≡ true → IfOk r (λ rows. rows ≡ lock_view (recorded_name p) t p.locks)
-    → IfOk r (λ rows. AreShown p look Locks t key rows)
-whole_locks p look t None r whole are = are
-whole_locks p look t (Some key) r whole are = absurd (cc)
+  pub whole_history : may_narrow History (look.reading t) key ≡ true → IfOk r (λ rows. IsHistoryView p look.home t rows) → IfOk r (λ rows. AreShown p look History t key rows)
+  whole_history = by_key key
+    where
+      by_key : (o : Option (List Value)) → is_none o ≡ true → IfOk r (λ rows. IsHistoryView p look.home t rows) → IfOk r (λ rows. AreShown p look History t o rows)
+      by_key None whole are = are
+      by_key (Some k) whole are = absurd (cc)
 
--- the rows of a table may be listed by any key
-pub rows_narrow : (r : Result (Option (List Value)) Memory) → IfOk r (λ key. may_narrow Rows key ≡ true)
-rows_narrow (Ok key) = refl
-rows_narrow (Err memory) = tt
+  pub whole_locks : may_narrow Locks (look.reading t) key ≡ true → IfOk r (λ rows. rows ≡ lock_view (recorded_name p) t p.locks) → IfOk r (λ rows. AreShown p look Locks t key rows)
+  whole_locks = by_key key
+    where
+      by_key : (o : Option (List Value)) → is_none o ≡ true → IfOk r (λ rows. rows ≡ lock_view (recorded_name p) t p.locks) → IfOk r (λ rows. AreShown p look Locks t o rows)
+      by_key None whole are = are
+      by_key (Some k) whole are = absurd (cc)
+
+-- the rows of a table may be listed by any key, where a version is read
+pub rows_narrow : (view : View) (reading : Reading) (version : ℕ) (r : Result (Option (List Value)) Memory) → Rows ≡ view → Version version ≡ reading → IfOk r (λ key. may_narrow view reading key ≡ true)
+rows_narrow view reading version (Ok key) is at = subst (λ (v : View). may_narrow v reading key ≡ true) is (subst (λ (x : Reading). may_narrow Rows x key ≡ true) at refl)
+rows_narrow view reading version (Err memory) is at = tt
 
 -- ---- one source after another
 

@@ -73,8 +73,8 @@ are_family p m session look x rules is some =
     }
 
 -- the look has the moment and the session
-pub own_look : (p : Parts) (l : LookNode) (m : ℕ) (session : Session) → l.moment ≡ m → l.session.now ≡ session → IsLook p m session (look_view l) → IsLook p l.moment l.session.now (look_view l)
-own_look p l m session at whose is = subst (λ (x : Session). IsLook p l.moment x (look_view l)) (sym whose) (subst (λ (n : ℕ). IsLook p n session (look_view l)) (sym at) is)
+pub own_look : (p : Parts) (l : LookNode) (m : ℕ) (session : Session) → l.moment ≡ m → l.session.now ≡ session → IsLook p m session (look_view p l) → IsLook p l.moment l.session.now (look_view p l)
+own_look p l m session at whose is = subst (λ (x : Session). IsLook p l.moment x (look_view p l)) (sym whose) (subst (λ (n : ℕ). IsLook p n session (look_view p l)) (sym at) is)
 
 -- ---- what a query is refused for
 

@@ -1,22 +1,19 @@
-//! What a session looks at: a version, the workspace in which it stands, and the one whose conflicts it looks at.
-ghost use Rattle.std.specs.Prelude.{◌≡◌, Some, true};
-ghost use Rattle.std.specs.Option.{option_copied};
-ghost use Rattle.wm_syntax.specs.Views.{srcs_view};
+//! What a session looks at: what it reads of each table, the workspace in which it stands, and the one whose conflicts it
+//! looks at.
+ghost use Rattle.std.specs.Prelude.{◌≡◌, Some, map, true};
 ghost use Rattle.wm_graph.specs.Parts.{parts_of, space_of};
 ghost use Rattle.wm_graph.specs.Rules.{keep_rules};
-ghost use Rattle.wm_model.specs.Looking.{IsFamilyOf, IsLook, conflicting_space, lost_name, lost_space};
+ghost use Rattle.wm_model.specs.Looking.{IsFamilyOf, IsLook, conflicting_space};
 ghost use Rattle.wm_model.specs.Planning.{version_read};
-ghost use Rattle.wm_model.specs.Step.{asks_conflicts};
-ghost use Rattle.wm_plan.specs.Stands.{stand_view};
-ghost use Rattle.wm_view_rows.specs.Views.{is_conflicts};
-ghost use Rattle.wm_views.specs.Looking.{family_view, look_view};
+ghost use Rattle.wm_model.specs.Sources.{reading_at};
+ghost use Rattle.wm_state.specs.Reading.{making_from};
+ghost use Rattle.wm_state.specs.Standing.{saved_fields, saved_in};
+ghost use Rattle.wm_state.specs.State.{Dated};
+ghost use Rattle.wm_views.specs.Looking.{family_view, look_view, reading_view};
 
-use wm_base::Name;
 use wm_image::Image;
 use wm_plan::session::{Session, Stand};
-use wm_spec::record::Space;
-use wm_syntax::query::Src;
-use wm_view_rows::view::{View, view_named};
+use wm_spec::record::{Space, Table};
 
 /// A workspace and its parent.
 #[derive(Clone, Copy)]
@@ -30,76 +27,65 @@ pub struct Family<'a> {
 pub struct Look<'a> {
     pub moment: u64,
     pub session: &'a Session,
-    /// The version that it reads.
-    pub version: u64,
     /// The workspace in which it stands.
     pub home: &'a Space,
     /// The workspace whose conflicts it looks at, where that has a parent.
     pub family: Option<Family<'a>>,
 }
 
-/// The version that is read by one who stands so in a workspace. No version has the number 0.
-fn version_at(image: &Image, space: u32, stand: Stand) -> u64
-    ensures { result ≡ version_read (parts_of image.now) space (stand_view stand) }
+/// What is read of a table.
+#[derive(Clone, Copy)]
+pub enum Reading {
+    /// What the version of a number holds. No version has the number 0.
+    Version(u64),
+    /// What stood in the workspace of the session on a date, in seconds.
+    Day(u64),
+}
+
+/// The version that is read at what is newest in a workspace, or at the savepoint of a making.
+fn version_at(image: &Image, space: u32, making: Option<u64>) -> u64
+    ensures { result ≡ version_read (parts_of image.now) space making }
 {
-    match stand {
-        Stand::Latest => image.latest(space),
-        Stand::At(making) => match image.savepoint(space, making) {
+    match making {
+        None => image.latest(space),
+        Some(making) => match image.savepoint(space, making) {
             Some(savepoint) => savepoint.version,
             None => 0,
         },
     }
 }
 
-/// The version that a session reads.
-fn version_of(image: &Image, session: &Session) -> u64
-    ensures { result ≡ version_read (parts_of image.now) session.now.space session.now.stand }
+/// The making of the first savepoint of a workspace whose place was made on a date or later.
+fn making_from(image: &Image, space: u32, date: u64) -> Option<u64>
+    ensures { result ≡ making_from date (map saved_fields (saved_in (parts_of image.now) space)) }
 {
-    version_at(image, session.space(), session.stand())
-}
-
-fn is_conflicts(view: View) -> bool
-    ensures { result ≡ is_conflicts view }
-{
-    match view {
-        View::Conflicts => true,
-        View::Rows | View::History | View::Locks => false,
-    }
-}
-
-/// Whether the conflicts of a table are among the sources.
-fn asks_conflicts(sources: &[Src]) -> bool
-    ensures { result ≡ asks_conflicts (srcs_view sources.now) }
-{
-    for source in sources {
-        if is_conflicts(view_named(source.table.as_bytes())) {
-            return true;
-        }
-    }
-    false
-}
-
-/// The name, where there is one and no workspace has it.
-fn lost_name<'a>(image: &Image, name: Option<&'a Name>) -> Option<&'a Name>
-    ensures { option_copied result ≡ lost_name (parts_of image.now).spaces (option_copied name.entry) }
-{
-    match name {
-        Some(name) => match image.space_named(name.as_bytes()) {
-            Some(_) => None,
-            None => Some(name),
-        },
+    match image.savepoint_from(space, date) {
+        Some(savepoint) => Some(savepoint.making),
         None => None,
     }
 }
 
-/// The name that was set for the workspace of conflicts, where conflicts are asked for and no workspace has it.
-pub fn lost_space<'a>(image: &Image, session: &'a Session, sources: &[Src]) -> Option<&'a Name>
-    ensures { option_copied result ≡ lost_space (parts_of image.now).spaces session.now (srcs_view sources.now) }
+/// What is read of a table on a date in a workspace.
+fn reading_on(image: &Image, space: u32, date: u64, table: &Table) -> Reading
+    ensures { reading_view result ≡ reading_at (parts_of image.now) space (Dated date) table.now }
 {
-    if !asks_conflicts(sources) {
-        return None;
+    if table.history {
+        return Reading::Day(date);
     }
-    lost_name(image, session.conflict())
+    let making = making_from(image, space, date);
+    Reading::Version(version_at(image, space, making))
+}
+
+/// What a session reads of a table.
+pub fn reading_of(image: &Image, session: &Session, table: &Table) -> Reading
+    ensures { reading_view result ≡ reading_at (parts_of image.now) session.now.space session.now.stand table.now }
+{
+    let space = session.space();
+    match session.stand() {
+        Stand::Latest => Reading::Version(version_at(image, space, None)),
+        Stand::At(making) => Reading::Version(version_at(image, space, Some(making))),
+        Stand::Dated(date) => reading_on(image, space, date, table),
+    }
 }
 
 /// The workspace whose conflicts are looked at by one who stands in this one.
@@ -134,13 +120,12 @@ pub fn look_of<'a>(image: &'a Image, moment: u64, session: &'a Session, home: &'
     requires home { space_of (parts_of image.now).spaces session.now.space ≡ Some home.now }
     ensures moment { result.moment ≡ moment }
     ensures session { result.session.now ≡ session.now }
-    ensures look { IsLook (parts_of image.now) moment session.now (look_view result) }
+    ensures look { IsLook (parts_of image.now) moment session.now (look_view (parts_of image.now) result) }
 {
     let space = conflicting_space(image, session, home);
     Look {
         moment,
         session,
-        version: version_of(image, session),
         home,
         family: family_of(image, space),
     }

@@ -58,7 +58,7 @@ fn is_history(view: View) -> bool
 {
     match view {
         View::History => true,
-        View::Rows | View::Conflicts | View::Locks => false,
+        View::Rows | View::Conflicts | View::Differences | View::Locks => false,
     }
 }
 

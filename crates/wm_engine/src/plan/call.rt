@@ -28,8 +28,9 @@ use wm_plan::planned::Planned;
 use wm_plan::refuse::not_built;
 use wm_plan::session::Session;
 use wm_resolve::calls::{begin_call, commit_call, resolve_call, rollback_resolve_call};
+use wm_space::calls::comparing::set_difference_call;
 use wm_space::calls::enable::enable_call;
-use wm_space::calls::going::{goto_savepoint_call, goto_workspace_call};
+use wm_space::calls::going::{goto_date_call, goto_savepoint_call, goto_workspace_call};
 use wm_space::calls::looking::conflict_workspace_call;
 use wm_space::calls::savepoint::savepoint_call;
 use wm_space::calls::undoing::{remove_call, rollback_call};
@@ -72,6 +73,10 @@ fn call_of(
         }
         Procedure::GotoWorkspace => goto_workspace_call(alloc, image, sessions, session, args),
         Procedure::GotoSavepoint => goto_savepoint_call(alloc, image, session, args),
+        Procedure::GotoDate => goto_date_call(alloc, image, sessions, moment, session, args),
+        Procedure::SetDiffVersions => {
+            set_difference_call(alloc, image, sessions, moment, session, args)
+        }
         Procedure::SetConflictWorkspace => conflict_workspace_call(alloc, image, session, args),
         Procedure::SetValidTime => valid_time_call(alloc, image, session, args),
         Procedure::RollbackToSp => rollback_call(alloc, image, sessions, moment, session, args),
@@ -114,7 +119,6 @@ fn call_of(
         }
         Procedure::CommitResolve => commit_call(alloc, image, moment, session, args),
         Procedure::RollbackResolve => rollback_resolve_call(alloc, image, session, args),
-        _ => Ok(Planned::answered(alloc, not_built())),
     }
 }
 

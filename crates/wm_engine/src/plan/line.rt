@@ -17,12 +17,11 @@ ghost use Rattle.wm_spending.specs.Nets.{AreNets, Net};
 use crate::plan::statement::run;
 use std::alloc::Global;
 use wm_base::{Instant, Memory};
-use wm_calls::is_later;
 use wm_image::Image;
 use wm_parser::{ParseFault, discard, parse};
 use wm_plan::answer::Answer;
 use wm_plan::planned::Timed;
-use wm_plan::refuse::{bad_literal, no_text, not_built, syntax, too_long_line};
+use wm_plan::refuse::{bad_literal, no_text, syntax, too_long_line};
 use wm_plan::session::Session;
 use wm_reader::{is_remark, is_text};
 use wm_space::at::at_moment;
@@ -78,7 +77,7 @@ fn set_moment_in(alloc: Global, line: &mut Line, moment: Instant)
     }
 }
 
-/// What a line that was read does and answers, unless it uses what is not built yet.
+/// What a line that was read does and answers.
 fn plan_read(
     alloc: Global,
     image: &Image,
@@ -97,9 +96,6 @@ fn plan_read(
     ensures few { is_fork_line (line_view line.old) ≡ true → IfOk result (λ t. AreForks t.planned) }
     ensures nets { (net : Net) → nets_of_line (line_view line.old) ≡ Some net → IfOk result (λ t. AreNets image.now net t.planned.edits.items) }
 {
-    if is_later(line) {
-        return Ok(Timed::answered(alloc, moment, not_built()));
-    }
     let now = Instant::new(moment).unwrap();
     set_moment_in(alloc, line, now);
     plan_line(alloc, image, sessions, moment, line)

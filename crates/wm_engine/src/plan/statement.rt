@@ -84,7 +84,14 @@ fn statement_done(
         Statement::Delete { table, filter } => {
             delete(alloc, image, moment, session, table, filter, empty)
         }
-        Statement::Select(query) => select(alloc, image, moment, session, query, empty),
+        Statement::Select(query) => {
+            let ground = Ground {
+                image,
+                sessions,
+                moment,
+            };
+            select(alloc, ground, session, query, empty)
+        }
         Statement::Call {
             procedure,
             args,

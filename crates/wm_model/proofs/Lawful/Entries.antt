@@ -6,7 +6,7 @@ use Rattle.std.specs.Option.{option_map_or}
 use Rattle.wm_making.specs.Rows.{is_filled}
 use Rattle.wm_spec.specs.Lists.{Entry, Told, told_of}
 use Rattle.wm_state.specs.Editing.{child_of, saved_at, turn_at_birth}
-use Rattle.wm_state.specs.State.{Savepoint, Stand, Latest, At, Turn, Workspace, next_making, savepoint_made, with_entries, with_savepoint, workspace_of}
+use Rattle.wm_state.specs.State.{Savepoint, Stand, Latest, At, Dated, Turn, Workspace, next_making, savepoint_made, with_entries, with_savepoint, workspace_of}
 use Rattle.wm_model.specs.Lawful.{Each, Holds, IsSound, LawfulEntries, is_full_row}
 use Rattle.wm_model.proofs.Lawful.Lists.{found_either, one_turn}
 use Rattle.wm_model.proofs.Lawful.Saving.{again, newest}
@@ -54,6 +54,7 @@ AllHold P ws = (n : ℕ) (w : Workspace) → workspace_of ws n ≡ Some w → Ho
 pub mark_holds : (P : Entry → Type 0) (m : ℕ) (spaces : List Workspace) (w : Workspace) (stand : Stand) (name : List ℕ) (implicit : Bool) (k : Savepoint) → Holds P w → saved_at m spaces w stand name implicit ≡ Some k → Each P k.base × Each P k.own
 mark_holds P m spaces w Latest name implicit k h e =
     let same : newest (next_making spaces) m w name implicit ≡ k = cc in subst (λ (x : Savepoint). Each P x.base × Each P x.own) same (h.base, h.own)
+mark_holds P m spaces w (Dated date) name implicit k h e = absurd (cc)
 mark_holds P m spaces w (At making) name implicit k h e = by_found (savepoint_made making w.savepoints) refl e
   where
     by_found : (o : Option Savepoint) → savepoint_made making w.savepoints ≡ o → option_map (again (next_making spaces) name implicit) o ≡ Some k → Each P k.base × Each P k.own

@@ -51,6 +51,7 @@ space_frozen mode writer w l = record {
   rises = l.rises;
   first = l.first;
   last = l.last;
+  live = l.live;
   turns = l.turns;
 }
   where

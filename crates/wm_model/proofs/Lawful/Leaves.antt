@@ -67,6 +67,7 @@ leaves_with_named s name act l a = by_space (workspace_named name s.durable.spac
 pub leaves_at_latest : (s : State) (stand : state.Stand) (done : State × Answer) → LawfulState s → Leaves done → Leaves (at_latest s stand done)
 leaves_at_latest s Latest done l d = d
 leaves_at_latest s (state.At making) done l d = stays s _ l
+leaves_at_latest s (state.Dated date) done l d = stays s _ l
 
 pub leaves_unless_empty_period : (empty : Bool) (s : State) (done : State × Answer) → LawfulState s → Leaves done → Leaves (unless_empty_period empty s done)
 leaves_unless_empty_period empty s done l d = leaves_if empty _ _ (stays s _ l) d

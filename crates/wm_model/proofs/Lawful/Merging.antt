@@ -9,7 +9,7 @@ use Rattle.wm_net.proofs.Netting.{Alike-net, gained_is}
 use Rattle.wm_print.specs.Texts.{Fine}
 use Rattle.wm_spec.specs.Lists.{Alike, Entry, Told}
 use Rattle.wm_state.specs.Editing.{implicit_name, kept_in, saved, unlocked_of, without}
-use Rattle.wm_state.specs.State.{Durable, Savepoint, Session, Stand, Latest, At, Workspace, content, fresh_live, next_making, with_entries, with_savepoint, with_space, workspace_of}
+use Rattle.wm_state.specs.State.{Durable, Savepoint, Session, Stand, Latest, At, Dated, Workspace, content, fresh_live, next_making, with_entries, with_savepoint, with_space, workspace_of}
 use Rattle.wm_state.proofs.Changing.{differ-changed, workspace_of-changed}
 use Rattle.wm_model.specs.Lawful.{Each, IsAt, IsSound, LawfulSpaces, LawfulState, Seats}
 use Rattle.wm_model.specs.Step.{Answer, Asked, State, first_fault, gained_of, has_child, has_locks, is_child, is_even, is_quiet, leaving_faults, longer_log, merge, merge_workspace, merged, merged_with, merging_faults, no_parent, parent_in, pending, refresh, refresh_workspace, refreshed, refreshing_faults, removed, session_inside, stands_in, unless}
@@ -100,6 +100,7 @@ holding_rebased emptied tells next xs w p ws es f each alike =
   where
     at : (stand : Stand) → IsAt w stand → IsAt (rebased_with emptied p es w) stand
     at Latest stood = stood
+    at (Dated date) stood = stood
     at (At making) stood = stood
 
 -- ---- a refresh

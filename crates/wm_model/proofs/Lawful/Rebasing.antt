@@ -86,6 +86,7 @@ space_rebased emptied p w es l above alike =
       last = λ t found.
           let same = turn_behind w.turns (turn_on p) (w.rebases + 1) t (sym turns) found in
           (ap (λ (u : Turn). u.content) same, ap (λ (u : Turn). u.log_length) same);
+      live = λ none. absurd (omega (arith, above, none));
       turns = rw (ne_eqb w.number 0 (λ none. absurd (omega (arith, above, none)))) (omega (arith, turns, length-append w.turns (turn_on p ∷ [])));
     }
 

@@ -69,6 +69,7 @@ space_resolved es ms w l = let v = space_appended w es l in record {
   rises = v.rises;
   first = v.first;
   last = v.last;
+  live = v.live;
   turns = v.turns;
 }
   where

@@ -27,6 +27,7 @@ fresh_lawful = record {
   rises = λ P Q a b found other. absurd (cc);
   first = λ t found. absurd (cc);
   last = λ t found. absurd (cc);
+  live = λ none. refl;
   turns = refl;
 }
 

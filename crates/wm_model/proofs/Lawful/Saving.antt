@@ -6,7 +6,7 @@ use Rattle.std.proofs.lemmas.List.{drop-append-le}
 use Rattle.std.specs.List.{find}
 use Rattle.wm_spec.specs.Lists.{Entry}
 use Rattle.wm_state.specs.Editing.{child_of, place_behind, saved_at, turn_at_birth}
-use Rattle.wm_state.specs.State.{Savepoint, Stand, Latest, At, Turn, Workspace, next_making, next_space, savepoint_made, with_entries, with_savepoint}
+use Rattle.wm_state.specs.State.{Savepoint, Stand, Latest, At, Dated, Turn, Workspace, next_making, next_space, savepoint_made, with_entries, with_savepoint}
 use Rattle.wm_model.specs.Lawful.{LawfulMark, LawfulSpace, Rises}
 use Rattle.wm_model.proofs.Lawful.Lists.{found_either, one_turn}
 use Rattle.wm_net.proofs.Alikes.{Alike-longer}
@@ -35,6 +35,7 @@ space_appended w es l = record {
   rises = l.rises;
   first = l.first;
   last = l.last;
+  live = l.live;
   turns = l.turns;
 }
 
@@ -65,6 +66,7 @@ space_saved w place implicit k l f = record {
   rises = λ P Q a b found other. rises P Q a b (found_either P w.savepoints k a found) (found_either Q w.savepoints k b other);
   first = l.first;
   last = l.last;
+  live = l.live;
   turns = l.turns;
 }
   where
@@ -127,6 +129,7 @@ fits_again w i making icp name implicit k l found =
 -- what is saved where one stands fits behind the savepoints
 pub fits : (m : ℕ) (spaces : List Workspace) (w : Workspace) (stand : Stand) (name : List ℕ) (implicit : Bool) (icp : ℕ) (k : Savepoint) → LawfulSpace w → saved_at m spaces w stand name implicit ≡ Some k → Fits w (place_behind w stand) icp k
 fits m spaces w Latest name implicit icp k l e = rw (sym (let same : newest (next_making spaces) m w name implicit ≡ k = cc in same)) (fits_newest w (next_making spaces) m icp name implicit l)
+fits m spaces w (Dated date) name implicit icp k l e = absurd (cc)
 fits m spaces w (At making) name implicit icp k l e = by_found (savepoint_made making w.savepoints) refl e
   where
     by_found : (o : Option Savepoint) → savepoint_made making w.savepoints ≡ o → option_map (again (next_making spaces) name implicit) o ≡ Some k → Fits w w.next_place icp k
@@ -142,5 +145,6 @@ child_lawful m spaces w k name older = record {
   rises = λ P Q a b found other. absurd (cc);
   first = λ t found. ap (λ (u : Turn). u.content) (one_turn (turn_at_birth k) t 0 found);
   last = λ t found. (let same = one_turn (turn_at_birth k) t 0 found in (ap (λ (u : Turn). u.content) same, ap (λ (u : Turn). u.log_length) same));
+  live = λ none. absurd (omega (arith, older, none));
   turns = rw (ne_eqb (next_space spaces) 0 (λ none. absurd (omega (arith, older, none)))) refl;
 }

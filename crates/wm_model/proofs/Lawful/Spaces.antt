@@ -7,7 +7,7 @@ use Rattle.std.specs.Str.{bytes_eq}
 use Rattle.wm_graph.specs.Rules.{differ}
 use Rattle.wm_spec.specs.Lists.{Entry, Alike}
 use Rattle.wm_state.specs.Editing.{child_of, turn_at_birth}
-use Rattle.wm_state.specs.State.{Savepoint, Session, Stand, Latest, At, Turn, Workspace, next_space, savepoint_made, turn_of, with_entries, with_savepoint, with_space, workspace_named, workspace_of}
+use Rattle.wm_state.specs.State.{Savepoint, Session, Stand, Latest, At, Dated, Turn, Workspace, next_space, savepoint_made, turn_of, with_entries, with_savepoint, with_space, workspace_named, workspace_of}
 use Rattle.wm_state.proofs.Changing.{workspace_of-changed}
 use Rattle.wm_state.proofs.Mapped.{find-again, find-passes, none-found}
 use Rattle.wm_state.proofs.Tests.{differ_push, find_push}
@@ -213,6 +213,7 @@ seats_kept ws vs n w v xs k s = seats_swapped ws vs n w v k.swap at xs s
   where
     at : (stand : Stand) → IsAt w stand → IsAt v stand
     at Latest stood = tt
+    at (Dated date) stood = tt
     at (At making) stood = k.goes.marks making stood
 
 -- ---- a workspace more

@@ -56,6 +56,7 @@ staged_set P (settings.Begin space) x new each = tt
 staged_set P settings.End x new each = tt
 staged_set P (settings.Freeze space) x new each = each
 staged_set P (settings.Lock mode) x new each = each
+staged_set P (settings.Compare d) x new each = each
 staged_set P (settings.Decide ds) x new each = by_resolve x.resolve each
   where
     by_resolve : (o : Option Resolve) → Each P (flat_map staged_of (option_map_or (λ (r : Resolve). r.decisions) o [])) → Each P (flat_map staged_of (option_map_or (λ (r : Resolve). r.decisions) (option_map (with_decisions ds) o) []))

@@ -11,8 +11,8 @@ use Rattle.wm_base.specs.declared.row.Row.{Row}
 use Rattle.wm_syntax.specs.declared.statement.Arg.{Arg}
 use Rattle.wm_syntax.specs.declared.statement.CreateItem.{CreateItem}
 use Rattle.wm_base.specs.declared.value.Value.{Value}
+use Rattle.wm_calls.specs.Arguments.{moment_given}
 use Rattle.wm_calls.specs.Faults.{argument_fault}
-use Rattle.wm_calls.specs.Later.{is_later}
 use Rattle.wm_dml.specs.Changing.{added, chosen, gone, replacing, row_key, rows_fault, sets_period, updated_rows}
 use Rattle.wm_dml.specs.Moving.{moves_of, moving}
 use Rattle.wm_dml.specs.Standing.{change_keys}
@@ -31,9 +31,9 @@ use Rattle.wm_model.specs.Entered.{entries_of}
 use Rattle.wm_model.specs.Lawful.{IsPlace, IsSound, LawfulState, is_full_row}
 use Rattle.wm_model.specs.Lines.{fits_line}
 use Rattle.wm_model.specs.Step.Sessions as settings
-use Rattle.wm_model.specs.Step.{Answer, Asking, State, add_found, add_to, altered, at_newest, bear, born, call, call_with, cells_of, claim_of, commit_resolve, connect, create, create_savepoint, create_workspace, delete, disconnect, durably, enable, first_clash, frozen_fault, goto_savepoint, home_of, goto_workspace, implicit_name, insert, key_there, latest, line_work, lock_fault, lost_source, mode_given, move_all, new_period, no_savepoint, no_table, no_text, parts_locked, replace_all, rows_in, rows_meant, run_for, run_line, run_parsed, run_statement, save, saved_at, select, select_from, select_ready, session_of, set_conflict_workspace, set_moment, set_valid_time, statement_done, step, table_off, tables_of, taken, timed_line, told_period, too_long_line, update, versioning, with_rows, within, write_all, write_ascending, written_all}
+use Rattle.wm_model.specs.Step.{Answer, Asking, State, add_found, add_to, altered, at_newest, bear, born, call, call_with, cells_of, claim_of, commit_resolve, connect, create, create_savepoint, create_workspace, delete, difference_given, disconnect, durably, enable, first_clash, frozen_fault, goto_date_plan, goto_savepoint, home_of, goto_workspace, implicit_name, insert, key_there, latest, line_work, lock_fault, lost_source, mode_given, move_all, new_period, no_savepoint, no_table, no_text, parts_locked, replace_all, rows_in, rows_meant, run, run_for, run_line, run_parsed, run_statement, save, saved_at, select, select_from, select_ready, session_of, set_conflict_workspace, set_difference_plan, set_moment, set_valid_time, statement_done, step, table_off, tables_of, taken, timed_line, told_period, too_long_line, update, versioning, with_rows, within, write_all, write_ascending, written_all}
 use Rattle.wm_model.proofs.Lawful.Freezing.{leaves_freeze, leaves_unfreeze}
-use Rattle.wm_model.proofs.Lawful.Leaves.{Leaves, leaves_barred, leaves_born, leaves_conflict, leaves_durably, leaves_durably_by, leaves_gone, leaves_if, leaves_period, leaves_saved, leaves_seated, leaves_tables, leaves_unless, leaves_with_named, leaves_written, leaving, live_place, seats_filter, seats_push, stays}
+use Rattle.wm_model.proofs.Lawful.Leaves.{Leaves, leaves_barred, leaves_born, leaves_conflict, leaves_durably, leaves_durably_by, leaves_gone, leaves_if, leaves_period, leaves_run, leaves_saved, leaves_seated, leaves_set, leaves_tables, leaves_unless, leaves_with_named, leaves_written, leaving, live_place, seats_filter, seats_push, stays}
 use Rattle.wm_model.proofs.Lawful.Locking.{leaves_lock_rows, leaves_locked, leaves_set_locking, leaves_unlock_rows}
 use Rattle.wm_model.proofs.Lawful.Places.{home_found, place_of}
 use Rattle.wm_model.proofs.Lawful.Rows.{are_full, chosen_full, content_full, entries_written, gone_full, is_full_change, keyed_row, moving_full, replacing_full, rows_full, updated_full}
@@ -46,13 +46,13 @@ use Rattle.wm_print.specs.Texts.{Done, Fine, Nothing}
 use Rattle.wm_reader.specs.Reading.{is_remark}
 use Rattle.wm_spec.specs.declared.record.table.Table.{Table}
 use Rattle.wm_state.specs.Drawing.{are_sorted}
-use Rattle.wm_state.specs.State.{Readiness, Savepoint, Session, Stand, Latest, At, Workspace, content, savepoint_made, savepoint_named, workspace_of}
+use Rattle.wm_state.specs.State.{Readiness, Savepoint, Session, Stand, Latest, At, Dated, Workspace, content, savepoint_made, savepoint_named, workspace_of}
 
 -- ---- sessions and the moment
 
-leaves_opened : (name user : List ℕ) (s : State) → LawfulState s → Leaves (record s { sessions = s.sessions ++ record { name = name; user = user; space = 0; stand = Latest; period = None; conflict = None; resolve = None; freezes = []; locking = None } ∷ [] }, Fine)
+leaves_opened : (name user : List ℕ) (s : State) → LawfulState s → Leaves (record s { sessions = s.sessions ++ record { name = name; user = user; space = 0; stand = Latest; period = None; conflict = None; resolve = None; freezes = []; locking = None; difference = None } ∷ [] }, Fine)
 leaves_opened name user s l =
-    let x : Session = record { name = name; user = user; space = 0; stand = Latest; period = None; conflict = None; resolve = None; freezes = []; locking = None } in
+    let x : Session = record { name = name; user = user; space = 0; stand = Latest; period = None; conflict = None; resolve = None; freezes = []; locking = None; difference = None } in
     leaves_seated s (s.sessions ++ x ∷ []) Fine l (seats_push s.durable.spaces s.sessions x l.seats (live_place s.durable.spaces l.durable.spaces.live))
     (staged_push (IsSound l.durable.entries.tells s.durable.next_stamp) s.sessions x l.durable.entries.staged tt)
 
@@ -220,6 +220,13 @@ leaves_goto_savepoint session name s l p =
         leaves_gone session.name session.space (At k.making) s _ l
         (record { space = home_of s session; is = home_found s session p; stands = made_some (λ (x : Savepoint). bytes_eq name x.name) (home_of s session).savepoints k is })
 
+leaves_goto_date : (session : Session) (args : List Arg) (s : State) → LawfulState s → IsHere s session → Leaves (run (goto_date_plan session args (outline s)) s)
+leaves_goto_date session args s l p =
+    leaves_run (goto_date_plan session args (outline s)) s l
+    (λ clear.
+    (leaves_gone session.name session.space (Dated (unwrap_or (moment_given procedures.GotoDate args parameters.InDate) 0)) s Fine l
+    (record { space = home_of s session; is = home_found s session p; stands = tt })).lawful)
+
 writes_bear : (stand : Stand) (name : List ℕ) → Writes (bear stand name)
 writes_bear stand name s w l found = by_savepoint (saved_at s.moment s.durable.spaces w stand (implicit_name w) true) refl
   where
@@ -238,6 +245,10 @@ leaves_goto_workspace session name s l = leaves_with_named s name _ l (λ w foun
 leaves_conflict_workspace : (session : Session) (name : List ℕ) (s : State) → LawfulState s → Leaves (set_conflict_workspace session name s)
 leaves_conflict_workspace session name s l = leaves_with_named s name _ l (λ w found. leaves_conflict session.name name s _ l)
 
+leaves_set_difference : (session : Session) (args : List Arg) (s : State) → LawfulState s → Leaves (run (set_difference_plan session args (outline s)) s)
+leaves_set_difference session args s l =
+    leaves_run (set_difference_plan session args (outline s)) s l (λ clear. (leaves_set session.name (settings.Compare (difference_given args)) s Fine l (λ x old. old) tt).lawful)
+
 -- ---- lines
 
 -- the session is the one of its name, and stands somewhere
@@ -254,6 +265,8 @@ leaves_call session (Some procedures.CreateWorkspace) args s l p one = search (l
 leaves_call session (Some procedures.CreateSavepoint) args s l p one = search (leaving, leaves_create_savepoint) depth 12
 leaves_call session (Some procedures.GotoWorkspace) args s l p one = search (leaving, leaves_goto_workspace) depth 12
 leaves_call session (Some procedures.GotoSavepoint) args s l p one = search (leaving, leaves_goto_savepoint) depth 12
+leaves_call session (Some procedures.GotoDate) args s l p one = leaves_goto_date session args s l p
+leaves_call session (Some procedures.SetDiffVersions) args s l p one = leaves_set_difference session args s l
 leaves_call session (Some procedures.SetValidTime) args s l p one = search (leaving, leaves_valid_time) depth 12
 leaves_call session (Some procedures.SetConflictWorkspace) args s l p one = search (leaving, leaves_conflict_workspace) depth 12
 leaves_call session (Some procedures.RollbackToSp) args s l p one = search (leaving, leaves_rollback_to) depth 12
@@ -300,7 +313,7 @@ leaves_line (AtMoment instant) s l = leaves_moment instant s l
 leaves_line (Run name statement) s l = leaves_for name (session_of name s.sessions) statement s l refl
 
 leaves_parsed : (line : Result Line Bad) (s : State) → LawfulState s → Leaves (run_parsed line s)
-leaves_parsed (Ok line) s l = leaves_if (is_later line) _ _ (stays s _ l) (leaves_line (timed_line s.moment line) s l)
+leaves_parsed (Ok line) s l = leaves_line (timed_line s.moment line) s l
 leaves_parsed (Err (Syntax column)) s l = stays s _ l
 leaves_parsed (Err (Literal column)) s l = stays s _ l
 

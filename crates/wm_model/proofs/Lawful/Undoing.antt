@@ -11,7 +11,7 @@ use Rattle.wm_net.proofs.Merging.{point_cut}
 use Rattle.wm_print.specs.Texts.{Fine}
 use Rattle.wm_spec.specs.Lists.{Entry}
 use Rattle.wm_state.specs.Editing.{is_other, restored, restored_in, stays_at, unlocked_of, without}
-use Rattle.wm_state.specs.State.{Durable, Savepoint, Session, Stand, Latest, At, Workspace, savepoint_made, savepoint_named, turn_of, with_space, workspace_of}
+use Rattle.wm_state.specs.State.{Durable, Savepoint, Session, Stand, Latest, At, Dated, Workspace, savepoint_made, savepoint_named, turn_of, with_space, workspace_of}
 use Rattle.wm_state.proofs.Changing.{differ-changed}
 use Rattle.wm_state.proofs.Mapped.{find-filter, find-passes}
 use Rattle.wm_state.proofs.Tests.{differ_filter}
@@ -69,6 +69,7 @@ space_restored w P k l found same = let m = l.marks P k found in record {
   rises = λ Q R a b one other. l.rises (λ y. stays_at k y && Q y) (λ y. stays_at k y && R y) a b (found_left Q w k a one) (found_left R w k b other);
   first = l.first;
   last = λ t turned. m.turn t (ap (turn_of w) same ∙ turned);
+  live = l.live;
   turns = l.turns;
 }
 
@@ -132,6 +133,7 @@ lawful_restored xs w P k d l known found same none =
 -- one stands so still, where a rollback leaves what one stands at
 stands_restored : (w : Workspace) (k : Savepoint) (stand : Stand) → would_go w k stand ≡ false → IsAt w stand → IsAt (restored k w) stand
 stands_restored w k Latest none stood = tt
+stands_restored w k (Dated date) none stood = tt
 stands_restored w k (At making) none stood = by_savepoint (savepoint_made making w.savepoints) refl none stood
   where
     by_savepoint : (o : Option Savepoint) → savepoint_made making w.savepoints ≡ o → option_map_or (λ (j : Savepoint). not (stays_at k j)) o false ≡ false → is_some o ≡ true → is_some (savepoint_made making (restored k w).savepoints) ≡ true

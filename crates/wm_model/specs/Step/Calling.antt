@@ -21,6 +21,8 @@ use Rattle.wm_model.specs.Step.Naming.{is_name, names_no_workspace, latest, name
 use Rattle.wm_model.specs.Step.Faulting.{fault_around}
 use Rattle.wm_model.specs.Step.Freezing.{freeze_plan, unfreeze_plan}
 use Rattle.wm_model.specs.Step.Locking.{Asking, lock_rows_plan, mode_given, rows_meant, set_locking_plan, unlock_rows_plan}
+use Rattle.wm_model.specs.Step.Comparing.{set_difference_plan}
+use Rattle.wm_model.specs.Step.Dating.{goto_date_plan}
 use Rattle.wm_model.specs.Step.Plans.{run}
 use Rattle.wm_model.specs.Step.Tables.{enable}
 use Rattle.wm_model.specs.Step.Periods.{set_valid_time}
@@ -90,6 +92,8 @@ call session (Some procedures.GotoWorkspace) args s =
 call session (Some procedures.GotoSavepoint) args s =
     let fault = argument_fault procedures.GotoSavepoint args in
     unless_mistyped fault s (goto_savepoint session (unwrap_or (text_given procedures.GotoSavepoint args parameters.SavepointName) latest) s)
+call session (Some procedures.GotoDate) args s = run (goto_date_plan session args (outline s)) s
+call session (Some procedures.SetDiffVersions) args s = run (set_difference_plan session args (outline s)) s
 call session (Some procedures.SetValidTime) args s =
     let fault = argument_fault procedures.SetValidTime args in
     unless_mistyped fault s

@@ -1,7 +1,7 @@
 -- SELECT.
 use Rattle.std.specs.Prelude.{ℕ, List, [], ◌∷◌, Bool, false, not, ◌&&◌, ◌==◌, nat_lt, if◌then◌else◌, length, is_some, unwrap_or, Option, None, Some}
-use Rattle.std.specs.List.{filter_map, flat_map, list_any}
-use Rattle.std.specs.Option.{option_map, option_map_or}
+use Rattle.std.specs.List.{filter_map, flat_map}
+use Rattle.std.specs.Option.{option_and_then, option_map, option_map_or, option_or}
 use Rattle.wm_base.specs.Period.{Span}
 use Rattle.wm_spec.specs.Lists.{Entry}
 use Rattle.wm_spec.specs.Stretches.{rows}
@@ -13,17 +13,23 @@ use Rattle.wm_base.specs.declared.row.Row.{Row}
 use Rattle.wm_syntax.specs.Trees.{Query, Src}
 use Rattle.wm_select.specs.Query.{answer_of, row_limit}
 use Rattle.wm_query_faults.specs.Asking.{query_fault}
-use Rattle.wm_state.specs.State.{State, Session, Workspace, seen_from, table_named, workspace_named, workspace_of}
+use Rattle.wm_state.specs.State.{Difference, State, Session, Viewpoint, Workspace, table_named, workspace_named, workspace_of}
+use Rattle.wm_state.specs.Reading.{seen_from}
 use Rattle.wm_state.specs.Listing.{row_shown}
 use Rattle.wm_view_rows.specs.declared.view.View.{View}
 use Rattle.wm_view_rows.specs.declared.view.View.TheVariants as views
 use Rattle.wm_view_rows.specs.Columns.{columns_of_view}
 use Rattle.wm_view_rows.specs.Conflicts.{conflict_view}
+use Rattle.wm_view_rows.specs.Differences.{Sheets, difference_view}
 use Rattle.wm_view_rows.specs.History.{history_view}
 use Rattle.wm_view_rows.specs.Locks.{lock_view}
-use Rattle.wm_view_rows.specs.Views.{is_conflicts, is_history, table_sought, view_named}
+use Rattle.wm_view_rows.specs.Rows.{point_name}
+use Rattle.wm_view_rows.specs.Views.{is_history, table_sought, view_named}
 use Rattle.wm_print.specs.Texts.{Answer, Listing}
-use Rattle.wm_model.specs.Step.Refusing.{first_fault, no_history, no_table, no_workspace, versioning, most_rows, out_of_range, refused_for, unless, unless_empty_period}
+use Rattle.wm_model.specs.Step.Refusing.{first_fault, no_history, no_savepoint, no_table, no_workspace, versioning, most_rows, out_of_range, refused_for, unless, unless_empty_period}
+use Rattle.wm_outline.specs.Outline.{Outline, outline}
+use Rattle.wm_points.specs.Points.{Point, climb_in, common, point_in}
+use Rattle.wm_model.specs.Step.Comparing.{lost_savepoints, lost_workspace, lost_workspaces}
 use Rattle.wm_model.specs.Step.Naming.{at_home, parent_in}
 use Rattle.wm_model.specs.Step.Periods.{within}
 
@@ -72,22 +78,30 @@ lost_history tables (x ∷ xs) = of (table_asked tables x) (lost_history tables 
     of None others = others
     of (Some t) others = if lacks_history x t then Some t.name else others
 
--- ---- the workspace whose conflicts are looked at
+-- ---- what views look at
 
--- the conflicts of a table are among the sources
-abbrev pub asks_conflicts : List Src → Bool
-asks_conflicts sources = list_any (λ (x : Src). is_conflicts (view_named x.table)) sources
+-- the workspace that a view asks for, by the name that was set for the session, where it is not there
+abbrev pub workspace_lost : Outline → Session → View → Option (List ℕ)
+workspace_lost o session views.Conflicts = option_and_then (lost_workspace o) session.conflict
+workspace_lost o session views.Differences = option_and_then (lost_workspaces o) session.difference
+workspace_lost o session views.Rows = None
+workspace_lost o session views.History = None
+workspace_lost o session views.Locks = None
 
--- the one that was set for the session is not there
-abbrev pub lost_choice : List Workspace → Option (List ℕ) → Option (List ℕ)
-lost_choice spaces None = None
-lost_choice spaces (Some name) = if is_some (workspace_named name spaces) then None else Some name
+-- so for a savepoint
+abbrev pub savepoint_lost : Outline → Session → View → Option (List ℕ)
+savepoint_lost o session views.Differences = option_and_then (lost_savepoints o) session.difference
+savepoint_lost o session views.Rows = None
+savepoint_lost o session views.Conflicts = None
+savepoint_lost o session views.History = None
+savepoint_lost o session views.Locks = None
 
--- so, where a query asks for conflicts
-abbrev pub lost_conflicts : List Workspace → Session → List Src → Option (List ℕ)
-lost_conflicts spaces session sources = if asks_conflicts sources then lost_choice spaces session.conflict else None
+-- the first that a source asks for
+abbrev pub first_lost : (View → Option (List ℕ)) → List Src → Option (List ℕ)
+first_lost lost [] = None
+first_lost lost (x ∷ xs) = option_or (lost (view_named x.table)) (first_lost lost xs)
 
--- the one that was set for it, and else the one that it stands in
+-- the workspace whose conflicts are looked at: the one that was set for the session, and else the one that it stands in
 abbrev pub conflicting : List Workspace → Option (List ℕ) → Workspace → Workspace
 conflicting spaces None home = home
 conflicting spaces (Some name) home = unwrap_or (workspace_named name spaces) home
@@ -102,10 +116,26 @@ conflicts_shown s w t = if w.number == 0 then [] else conflict_view (parent_in s
 abbrev pub space_name : State → ℕ → List ℕ
 space_name s n = option_map_or (λ (w : Workspace). w.name) (workspace_of s.durable.spaces n) []
 
+-- the points that are compared with what they have in common, where they are there
+abbrev pub sheets_in : List Workspace → Point (List Entry) → Point (List Entry) → Sheets
+sheets_in spaces x y = record { base = (common (climb_in spaces) x y).what; first = x.what; second = y.what }
+
+abbrev pub sheets_of : List Workspace → Difference → Option Sheets
+sheets_of spaces d = option_and_then (λ (x : Point (List Entry)). option_map (sheets_in spaces x) (point_in spaces d.second)) (point_in spaces d.first)
+
+abbrev pub viewpoint_name : Viewpoint → List ℕ
+viewpoint_name v = point_name v.workspace v.savepoint
+
+-- where no points were set there are no differences
+abbrev pub differences_shown : State → Option Difference → Table → List Row
+differences_shown s None t = []
+differences_shown s (Some d) t = option_map_or (λ (x : Sheets). difference_view (viewpoint_name d.first) (viewpoint_name d.second) x t) (sheets_of s.durable.spaces d) []
+
 -- what a view of a table, or the table itself, shows a session that stands in a workspace
 abbrev pub view_shown : State → Session → Workspace → View → Table → List Row
-view_shown s session home views.Rows t = rows_in (within s.moment session t) (seen_from home session.stand) t
+view_shown s session home views.Rows t = rows_in (within s.moment session t) (seen_from home session.stand t) t
 view_shown s session home views.Conflicts t = conflicts_shown s (conflicting s.durable.spaces session.conflict home) t
+view_shown s session home views.Differences t = differences_shown s session.difference t
 view_shown s session home views.History t = history_view home t
 view_shown s session home views.Locks t = lock_view (space_name s) t s.durable.locks
 
@@ -127,7 +157,8 @@ abbrev pub selecting_faults : Session → Query → List Table → State → Lis
 selecting_faults session query tables s =
     query_fault (columns_in tables query.sources) query
     ∷ refused_for no_history (lost_history tables query.sources)
-    ∷ refused_for no_workspace (lost_conflicts s.durable.spaces session query.sources)
+    ∷ refused_for no_workspace (first_lost (workspace_lost (outline s) session) query.sources)
+    ∷ refused_for no_savepoint (first_lost (savepoint_lost (outline s) session) query.sources)
     ∷ []
 
 abbrev pub select_ready : Session → Query → Bool → List Table → State → State × Answer

@@ -4,8 +4,8 @@ use Rattle.wm_base.specs.Period.{Span}
 use Rattle.wm_base.specs.declared.value.Value.{Value}
 use Rattle.wm_base.specs.declared.refusal.Refusal.TheVariants.{Form, Limit}
 use Rattle.wm_base.specs.declared.refusal.Refusal.TheVariants as refusals
-use Rattle.wm_base.specs.declared.refusal.FormRefusal.TheVariants.{Wm001, Wm002, Wm003, Wm004, Wm005, Wm010, Wm011, Wm013, Wm015, Wm016, Wm018, Wm019}
-use Rattle.wm_base.specs.declared.refusal.SpaceRefusal.TheVariants.{Wm020, Wm021, Wm022, Wm023, Wm024, Wm025, Wm030, Wm031, Wm033, Wm040, Wm041, Wm042, Wm043, Wm044, Wm045, Wm046}
+use Rattle.wm_base.specs.declared.refusal.FormRefusal.TheVariants.{Wm001, Wm002, Wm003, Wm004, Wm005, Wm010, Wm011, Wm013, Wm014, Wm015, Wm016, Wm018, Wm019}
+use Rattle.wm_base.specs.declared.refusal.SpaceRefusal.TheVariants.{Wm020, Wm021, Wm022, Wm023, Wm024, Wm025, Wm030, Wm031, Wm032, Wm033, Wm040, Wm041, Wm042, Wm043, Wm044, Wm045, Wm046}
 use Rattle.wm_base.specs.declared.refusal.CellRefusal.TheVariants.{Wm050, Wm051, Wm052, Wm053, Wm060, Wm064, Wm065}
 use Rattle.wm_base.specs.declared.refusal.LimitRefusal.TheVariants.{Wm070, Wm071, Wm072, Wm073, Wm074, Wm075, Wm076, Wm099}
 use Rattle.wm_base.specs.declared.refusal.Refusal.{Refusal}
@@ -74,6 +74,10 @@ no_workspace name = Refused (refusals.Space (Wm020 name))
 abbrev pub workspace_there : List ℕ → Answer
 workspace_there name = Refused (refusals.Space (Wm021 name))
 
+-- so many arguments are asked for
+abbrev pub miscounted : ℕ → Answer
+miscounted count = Refused (Form (Wm014 count))
+
 abbrev pub no_savepoint : List ℕ → Answer
 no_savepoint name = Refused (refusals.Space (Wm022 name))
 
@@ -111,6 +115,10 @@ rebased_since name = Refused (refusals.Space (Wm046 name))
 
 abbrev pub not_latest : Answer
 not_latest = Refused (refusals.Space Wm030)
+
+-- a date is before the birth of a workspace
+abbrev pub date_before : List ℕ → ℕ → Answer
+date_before workspace birth = Refused (refusals.Space (Wm032 workspace birth))
 
 -- the moment is later than one that is to be set
 abbrev pub moment_back : ℕ → Answer

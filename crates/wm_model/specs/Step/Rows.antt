@@ -19,7 +19,7 @@ use Rattle.wm_making.specs.Rows.{period_given, row_of, row_fault}
 use Rattle.wm_model.specs.Entered.{entries_of}
 use Rattle.wm_outline.specs.Outline.{outline}
 use Rattle.wm_typing.specs.Changing.{update_fault, delete_fault}
-use Rattle.wm_state.specs.State.{State, Workspace, Session, Stand, Latest, At, content}
+use Rattle.wm_state.specs.State.{State, Workspace, Session, Stand, Latest, At, Dated, content}
 use Rattle.wm_state.specs.Editing.{line_work, written_all}
 use Rattle.wm_state.specs.Drawing.{are_sorted}
 use Rattle.wm_state.specs.Listing.{first_shared, span_on}
@@ -37,6 +37,7 @@ use Rattle.wm_model.specs.Step.Querying.{rows_in}
 abbrev pub at_latest : State → Stand → State × Answer → State × Answer
 at_latest s Latest done = done
 at_latest s (At making) done = (s, not_latest)
+at_latest s (Dated date) done = (s, not_latest)
 
 -- what is done with the table of a name in the workspace that a session stands in at what is newest, unless the statement is wrong
 -- for the table or has an empty period

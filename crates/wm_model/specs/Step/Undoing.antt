@@ -5,7 +5,7 @@ use Rattle.std.specs.Option.{option_map_or}
 use Rattle.wm_base.specs.declared.refusal.Refusal.{Refusal}
 use Rattle.wm_net.specs.Conflicts.{Settled}
 use Rattle.wm_spec.specs.declared.record.lock.Lock.{Lock}
-use Rattle.wm_state.specs.State.{State, Workspace, Savepoint, Session, Resolve, Decision, Stand, Latest, At, savepoint_made, savepoint_named}
+use Rattle.wm_state.specs.State.{State, Workspace, Savepoint, Session, Resolve, Decision, Stand, Latest, At, Dated, savepoint_made, savepoint_named}
 use Rattle.wm_state.specs.Editing.{is_settled_below, restored_in, stays_at, stays_held, unlocked_of, without}
 use Rattle.wm_state.specs.Firsts.{first_space}
 use Rattle.wm_print.specs.Texts.{Answer, Fine}
@@ -42,6 +42,7 @@ resolving_fault s w = refused_for (resolve_open w.name) (first_session (resolves
 abbrev pub would_go : Workspace → Savepoint → Stand → Bool
 would_go w k Latest = false
 would_go w k (At making) = option_map_or (λ (j : Savepoint). not (stays_at k j)) (savepoint_made making w.savepoints) false
+would_go w k (Dated date) = false
 
 -- a session stands so in the workspace
 abbrev pub stands_behind : Workspace → Savepoint → Session → Bool

@@ -1,10 +1,10 @@
 -- CreateWorkspace and GotoWorkspace.
-use Rattle.std.specs.Prelude.{ℕ, ◌+◌, List, [], ◌∷◌, nat_le, nat_lt, if◌then◌else◌, length, is_some, unwrap_or, Option, codes}
+use Rattle.std.specs.Prelude.{ℕ, ◌+◌, Bool, true, false, List, [], ◌∷◌, nat_le, nat_lt, if◌then◌else◌, length, is_some, unwrap_or, Option, codes}
 use Rattle.wm_base.specs.declared.refusal.Refusal.{Refusal}
-use Rattle.wm_state.specs.State.{State, Workspace, Session, Stand, Latest, workspace_named, savepoint_named, next_space}
+use Rattle.wm_state.specs.State.{State, Workspace, Session, Stand, Latest, At, Dated, workspace_named, savepoint_named, next_space}
 use Rattle.wm_state.specs.Editing.{number_limit, implicit_name, place_behind, bear_in}
 use Rattle.wm_print.specs.Texts.{Answer, Fine}
-use Rattle.wm_model.specs.Step.Refusing.{workspace_there, savepoint_there, most_workspaces, most_savepoints, at_its_end, refused_if, first_fault, unless}
+use Rattle.wm_model.specs.Step.Refusing.{workspace_there, savepoint_there, not_latest, most_workspaces, most_savepoints, at_its_end, refused_if, first_fault, unless}
 use Rattle.wm_model.specs.Step.Counting.{durably}
 use Rattle.wm_model.specs.Step.Naming.{with_named, at_home}
 use Rattle.wm_model.specs.Step.Sessions as settings
@@ -22,10 +22,17 @@ counting_faults stand s w =
     ∷ refused_if (nat_lt number_limit (next_space s.durable.spaces)) (at_its_end (codes "WORKSPACE"))
     ∷ []
 
+-- one stands on a date
+abbrev pub is_dated : Stand → Bool
+is_dated (Dated date) = true
+is_dated Latest = false
+is_dated (At making) = false
+
 -- what CreateWorkspace is refused for in the session's workspace
 abbrev pub bearing_faults : Stand → State → Workspace → List (Option Refusal)
 bearing_faults stand s w =
     refused_if (is_some (savepoint_named (implicit_name w) w.savepoints)) (savepoint_there (implicit_name w))
+    ∷ refused_if (is_dated stand) not_latest
     ∷ refused_if (nat_le 1024 (length s.durable.spaces)) most_workspaces
     ∷ refused_if (nat_le 4096 (length w.savepoints)) most_savepoints
     ∷ counting_faults stand s w

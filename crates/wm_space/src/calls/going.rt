@@ -1,5 +1,6 @@
-//! What GotoWorkspace and GotoSavepoint are given.
-ghost use Rattle.std.specs.Prelude.{◌≡◌, ℕ, List, Some, true, IfOk};
+//! What GotoWorkspace, GotoSavepoint and GotoDate are given.
+ghost use Rattle.std.specs.Prelude.{◌≡◌, ◌<◌, ℕ, List, Some, true, IfOk};
+ghost use Rattle.wm_base.specs.declared.instant.TheConstants.{END};
 ghost use Rattle.wm_plan.specs.Idle.{Idles};
 ghost use Rattle.wm_plan.specs.Planning.{DoesIt};
 ghost use Rattle.wm_grammar.specs.declared.procedure.Procedure.TheVariants as procedures;
@@ -9,10 +10,11 @@ ghost use Rattle.wm_model.specs.Planning.{IsOpen};
 ghost use Rattle.wm_model.specs.Step.{call};
 ghost use Rattle.wm_state.specs.State.{Session as SessionState};
 
-use crate::going::{goto_savepoint, goto_workspace};
+use crate::going::{goto_date, goto_savepoint, goto_workspace};
 use std::alloc::Global;
 use wm_base::Memory;
 use wm_grammar::{Parameter, Procedure};
+use wm_ground::ground::Ground;
 use wm_image::Image;
 use wm_plan::given::{bytes_given, fault_of};
 use wm_plan::planned::Planned;
@@ -60,4 +62,26 @@ pub fn goto_savepoint_call(
         b"LATEST",
     );
     goto_savepoint(alloc, image, session, savepoint)
+}
+
+/// GotoDate.
+pub fn goto_date_call(
+    alloc: Global,
+    image: &Image,
+    sessions: &[Session],
+    moment: u64,
+    session: &Session,
+    args: &[Arg],
+) -> Result<Planned, Memory>
+    requires rules { keep_rules (parts_of image.now) ≡ true }
+    requires moment { moment < END }
+    ensures does { IfOk result (λ p. DoesIt image.now sessions.now moment p (call session.now (Some procedures.GotoDate) args.now)) }
+    ensures idle { IfOk result Idles }
+{
+    let ground = Ground {
+        image,
+        sessions,
+        moment,
+    };
+    goto_date(alloc, ground, session, args)
 }

@@ -4,12 +4,12 @@ use Rattle.wm_dml.specs.Changing.{all_overlap, own_columns}
 use Rattle.wm_graph.specs.Parts.{parts_of, space_of}
 use Rattle.wm_model.proofs.Named.{named_is, ready_keyed}
 use Rattle.wm_model.proofs.Homes.{does_homeless}
-use Rattle.wm_model.proofs.Newest.{newest_none, newest_off, newest_faulty, newest_elsewhere, newest_empty}
+use Rattle.wm_model.proofs.Newest.{newest_none, newest_off, newest_faulty, newest_empty}
 use Rattle.wm_model.specs.Planning.{Stay, named}
 use Rattle.wm_model.specs.Step.{update, empty_period, no_table, not_built, not_latest, versioning}
 use Rattle.wm_print.specs.Texts.{Refused}
 use Rattle.wm_state.specs.Standing.{latest}
-use Rattle.wm_change.proofs.Acting.{does_change}
+use Rattle.wm_change.proofs.Acting.{does_change, newest_away}
 use Rattle.wm_chosen.proofs.ChosenRows.{chosen_keyed, chosen_overlap}
 use Rattle.wm_chosen.proofs.ChosenRows.{where_typed}
 use Rattle.wm_plan.proofs.Planning.{told}
@@ -42,17 +42,17 @@ returns-in_default-space-clause-does c = λ xs among.
     (ap answer_view c.answered-in_default-space.ensures.answer ∙ c.not_built.ensures)
     (does_homeless c.args.image.now xs c.args.moment c.args.session.now not_built (update c.args.session.now c.args.name.now (sets_view c.args.sets.now) (filter_view c.args.filter.now) c.args.empty) among (ap (space_of (parts_of c.args.image.now).spaces) (sym c.space.ensures) ∙ sym c.in_default-space.ensures))
 
-pub returns-in-At-clause-does : goal.returns-in-At-clause-does
-returns-in-At-clause-does c = λ xs among.
-    told c.args.image.now xs c.args.moment c.answered-in-At.result [] Stay not_latest (update c.args.session.now c.args.name.now (sets_view c.args.sets.now) (filter_view c.args.filter.now) c.args.empty) c.answered-in-At.ensures.edits (ap seating_view c.answered-in-At.ensures.seating)
-    (ap answer_view c.answered-in-At.ensures.answer ∙ c.not_latest.ensures)
-    (newest_elsewhere c.args.image.now xs c.args.moment c.args.session.now c.args.name.now (update_faults (sets_view c.args.sets.now) (filter_view c.args.filter.now)) c.args.empty (update_acts c.args.session.now (sets_view c.args.sets.now) (filter_view c.args.filter.now)) c.in-Some.table.now c.in-Some-space.space.now c.in-At.field-0 (record { ready = (record { rules = c.requires.rules; some = ap (named c.args.image.now) (sym c.as_bytes.ensures) ∙ sym c.in-Some.ensures; on = c.if-not-table.false }); good = sym c.in_ok-refusal.ensures.exact ∙ c.in_default-2.is }) (ap (space_of (parts_of c.args.image.now).spaces) (sym c.space.ensures) ∙ sym c.in-Some-space.ensures) (sym c.in-At.ensures))
+pub returns-in_default-stand-clause-does : goal.returns-in_default-stand-clause-does
+returns-in_default-stand-clause-does c = λ xs among.
+    told c.args.image.now xs c.args.moment c.answered-in_default-stand.result [] Stay not_latest (update c.args.session.now c.args.name.now (sets_view c.args.sets.now) (filter_view c.args.filter.now) c.args.empty) c.answered-in_default-stand.ensures.edits (ap seating_view c.answered-in_default-stand.ensures.seating)
+    (ap answer_view c.answered-in_default-stand.ensures.answer ∙ c.not_latest.ensures)
+    (newest_away c.args.image.now xs c.args.moment c.args.session.now c.args.name.now (update_faults (sets_view c.args.sets.now) (filter_view c.args.filter.now)) c.args.empty (update_acts c.args.session.now (sets_view c.args.sets.now) (filter_view c.args.filter.now)) c.in-Some.table.now c.in-Some-space.space.now c.stand.result c.in_default-stand.not-Latest (record { ready = (record { rules = c.requires.rules; some = ap (named c.args.image.now) (sym c.as_bytes.ensures) ∙ sym c.in-Some.ensures; on = c.if-not-table.false }); good = sym c.in_ok-refusal.ensures.exact ∙ c.in_default-2.is }) (ap (space_of (parts_of c.args.image.now).spaces) (sym c.space.ensures) ∙ sym c.in-Some-space.ensures) c.stand.ensures)
 
 pub returns-then-empty-clause-does : goal.returns-then-empty-clause-does
 returns-then-empty-clause-does c = λ xs among.
     told c.args.image.now xs c.args.moment c.answered-then-empty.result [] Stay empty_period (update c.args.session.now c.args.name.now (sets_view c.args.sets.now) (filter_view c.args.filter.now) c.args.empty) c.answered-then-empty.ensures.edits (ap seating_view c.answered-then-empty.ensures.seating)
     (ap answer_view c.answered-then-empty.ensures.answer ∙ c.empty_period.ensures)
-    (newest_empty c.args.image.now xs c.args.moment c.args.session.now c.args.name.now (update_faults (sets_view c.args.sets.now) (filter_view c.args.filter.now)) c.args.empty (update_acts c.args.session.now (sets_view c.args.sets.now) (filter_view c.args.filter.now)) c.in-Some.table.now c.in-Some-space.space.now (record { good = (record { ready = (record { rules = c.requires.rules; some = ap (named c.args.image.now) (sym c.as_bytes.ensures) ∙ sym c.in-Some.ensures; on = c.if-not-table.false }); good = sym c.in_ok-refusal.ensures.exact ∙ c.in_default-2.is }); found = (ap (space_of (parts_of c.args.image.now).spaces) (sym c.space.ensures) ∙ sym c.in-Some-space.ensures); at = sym c.in_default-stand.ensures }) c.if-empty.true)
+    (newest_empty c.args.image.now xs c.args.moment c.args.session.now c.args.name.now (update_faults (sets_view c.args.sets.now) (filter_view c.args.filter.now)) c.args.empty (update_acts c.args.session.now (sets_view c.args.sets.now) (filter_view c.args.filter.now)) c.in-Some.table.now c.in-Some-space.space.now (record { good = (record { ready = (record { rules = c.requires.rules; some = ap (named c.args.image.now) (sym c.as_bytes.ensures) ∙ sym c.in-Some.ensures; on = c.if-not-table.false }); good = sym c.in_ok-refusal.ensures.exact ∙ c.in_default-2.is }); found = (ap (space_of (parts_of c.args.image.now).spaces) (sym c.space.ensures) ∙ sym c.in-Some-space.ensures); at = sym c.in-Latest.ensures }) c.if-empty.true)
 
 pub chosen_rows-requires-clause-there : goal.chosen_rows-requires-clause-there
 chosen_rows-requires-clause-there c = (named_is c.args.image.now c.args.name.now c.in-Some.table.now c.requires.rules (ap (named c.args.image.now) (sym c.as_bytes.ensures) ∙ sym c.in-Some.ensures)).there
@@ -88,7 +88,7 @@ update_rows-requires-clause-overlap c =
 pub returns-clause-does : goal.returns-clause-does
 returns-clause-does c =
     does_change c.args.image.now c.args.moment c.update_rows.result c.args.session.now c.args.name.now (update_faults (sets_view c.args.sets.now) (filter_view c.args.filter.now)) c.args.empty (update_acts c.args.session.now (sets_view c.args.sets.now) (filter_view c.args.filter.now)) c.in-Some.table.now c.in-Some-space.space.now
-    (record { good = (record { ready = (record { rules = c.requires.rules; some = ap (named c.args.image.now) (sym c.as_bytes.ensures) ∙ sym c.in-Some.ensures; on = c.if-not-table.false }); good = sym c.in_ok-refusal.ensures.exact ∙ c.in_default-2.is }); found = (ap (space_of (parts_of c.args.image.now).spaces) (sym c.space.ensures) ∙ sym c.in-Some-space.ensures); at = sym c.in_default-stand.ensures }) c.if-empty.false
+    (record { good = (record { ready = (record { rules = c.requires.rules; some = ap (named c.args.image.now) (sym c.as_bytes.ensures) ∙ sym c.in-Some.ensures; on = c.if-not-table.false }); good = sym c.in_ok-refusal.ensures.exact ∙ c.in_default-2.is }); found = (ap (space_of (parts_of c.args.image.now).spaces) (sym c.space.ensures) ∙ sym c.in-Some-space.ensures); at = sym c.in-Latest.ensures }) c.if-empty.false
     (does_rows c.args.image.now c.args.moment c.update_rows.result c.args.session.now c.in-Some-space.space.now (filter_view c.args.filter.now) (updates c.args.session.now (sets_view c.args.sets.now)) c.in-Some.table.now c.within-within.result c.latest-version.result c.as_slice.result.now c.in_ok-rows.rows.items
     c.within-within.ensures (c.latest-version.ensures ∙ ap (latest (parts_of c.args.image.now)) c.space-3.ensures) c.in_ok-rows.ensures c.as_slice.ensures.value c.update_rows.ensures.does)
 

@@ -42,6 +42,6 @@ pub returns-clause-does : goal.returns-clause-does
 returns-clause-does c = λ rs m rules.
     let name = c.args.name.now in
     let user = c.args.user.now in
-    told rs c.args.sessions.now m c.seated.result [] (Open (record { name = name; user = user; space = 0; stand = Latest; period = None; conflict = None; resolve = None; freezes = []; locking = None })) Fine (connect name user) c.seated.ensures.edits
+    told rs c.args.sessions.now m c.seated.result [] (Open (record { name = name; user = user; space = 0; stand = Latest; period = None; conflict = None; resolve = None; freezes = []; locking = None; difference = None })) Fine (connect name user) c.seated.ensures.edits
     (ap seating_view c.seated.ensures.seating ∙ ap Open (c.new-session.ensures ∙ rw (c.in_ok-copy-2.ensures, c.in_ok-copy-3.ensures) refl)) (ap answer_view c.seated.ensures.answer)
     (does_connect rs c.args.sessions.now m name user rules (sym c.if-is_open.ensures) (sym c.if-not-are_names.ensures) (room _ c.if-sessions-ge-SESSION_LIMIT.false))

@@ -5,21 +5,22 @@ use Rattle.std.specs.List.Sorted.{IsStrictlySortedBy}
 use Rattle.std.specs.Map.{keys_of, lookup}
 use Rattle.wm_base.specs.Key.{key_order}
 use Rattle.wm_graph.specs.Parts.{parts_of}
-use Rattle.wm_version_rows.proofs.Gathering.{Entries, GatheredTo, gathered_first, gathered_next, is_showing, next_nested}
+use Rattle.wm_version_rows.proofs.Gathering.{KeyVersions, GatheredTo, gathered_first, gathered_next, is_showing, next_nested}
 use Rattle.wm_image.specs.Shown.{AreKeysOf, HoldKey}
 use Rattle.wm_ids.proofs.TableLists.{no_keys}
+use Rattle.wm_state.specs.Standing.{seen}
 use Rattle.wm_version_rows.proofs.listing.list_rows.Goals as goal
 
 pub returns-in_default : goal.returns-in_default
 returns-in_default c =
     is_showing c.args.image.now c.args.asked.now.version c.args.asked.now.table c.args.asked.now.valid c.args.asked.now.within [] c.new-rows.result c.in_default.ensures (no_keys key_order)
-    (gathered_first (parts_of c.args.image.now) c.args.asked.now.version c.args.asked.now.table c.args.asked.now.valid c.args.asked.now.within [] [] c.new-rows.result refl (All-nil _) c.new-rows.ensures)
+    (gathered_first (parts_of c.args.image.now) (seen (parts_of c.args.image.now) c.args.asked.now.version) c.args.asked.now.table c.args.asked.now.valid c.args.asked.now.within [] [] c.new-rows.result refl (All-nil _) c.new-rows.ensures)
 
 pub loop-versions-init : goal.loop-versions-init
 loop-versions-init c =
-    gathered_first (parts_of c.args.image.now) c.args.asked.now.version c.args.asked.now.table c.args.asked.now.valid c.args.asked.now.within c.into_iter-versions-iterator.result
+    gathered_first (parts_of c.args.image.now) (seen (parts_of c.args.image.now) c.args.asked.now.version) c.args.asked.now.table c.args.asked.now.valid c.args.asked.now.within c.into_iter-versions-iterator.result
     c.into_iter-versions-iterator.result c.new-rows.result refl
-    (subst (λ (es : Entries). All (λ e. lookup (is_at (key_order e.0)) es ≡ Some e.1) es) (sym c.into_iter-versions-iterator.ensures.into_iter_gives.0) c.into_iter-versions-iterator.ensures.into_iter_gives.6)
+    (subst (λ (es : KeyVersions). All (λ e. lookup (is_at (key_order e.0)) es ≡ Some e.1) es) (sym c.into_iter-versions-iterator.ensures.into_iter_gives.0) c.into_iter-versions-iterator.ensures.into_iter_gives.6)
     c.new-rows.ensures
 
 pub push_key-requires-clause-nested : goal.push_key-requires-clause-nested
@@ -45,7 +46,7 @@ pub returns : goal.returns
 returns c =
     is_showing c.args.image.now c.args.asked.now.version c.args.asked.now.table c.args.asked.now.valid c.args.asked.now.within c.into_iter-versions-iterator.result c.loop-versions.rows
     (subst (AreKeysOf c.args.image.now c.args.asked.now.table) (sym c.into_iter-versions-iterator.ensures.into_iter_gives.0) c.in-Some.ensures)
-    (subst (λ (es : Entries). IsStrictlySortedBy key_order (keys_of es)) (sym c.into_iter-versions-iterator.ensures.into_iter_gives.0) c.into_iter-versions-iterator.ensures.into_iter_gives.5)
+    (subst (λ (es : KeyVersions). IsStrictlySortedBy key_order (keys_of es)) (sym c.into_iter-versions-iterator.ensures.into_iter_gives.0) c.into_iter-versions-iterator.ensures.into_iter_gives.5)
     (subst
-    (λ (rest : Entries). GatheredTo (parts_of c.args.image.now) c.args.asked.now.version c.args.asked.now.table c.args.asked.now.valid c.args.asked.now.within c.into_iter-versions-iterator.result rest c.loop-versions.rows)
+    (λ (rest : KeyVersions). GatheredTo (parts_of c.args.image.now) (seen (parts_of c.args.image.now) c.args.asked.now.version) c.args.asked.now.table c.args.asked.now.valid c.args.asked.now.within c.into_iter-versions-iterator.result rest c.loop-versions.rows)
     c.in-None.ensures.steps.0 c.loop-versions.invariant)

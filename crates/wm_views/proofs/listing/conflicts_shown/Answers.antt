@@ -6,4 +6,4 @@ use Rattle.wm_views.proofs.listing.conflicts_shown.Goals as goal
 
 pub conflict_view-requires-clause-family : goal.conflict_view-requires-clause-family
 conflict_view-requires-clause-family c =
-    are_family (parts_of c.args.image.now) c.args.look.now.moment c.args.look.now.session.now (look_view c.args.look.now) (c.in-Some.family.space.now, c.in-Some.family.parent.now) c.requires.rules c.requires.look (ap family_view c.in-Some.is)
+    are_family (parts_of c.args.image.now) c.args.look.now.moment c.args.look.now.session.now (look_view (parts_of c.args.image.now) c.args.look.now) (c.in-Some.family.space.now, c.in-Some.family.parent.now) c.requires.rules c.requires.look (ap family_view c.in-Some.is)

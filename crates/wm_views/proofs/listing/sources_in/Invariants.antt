@@ -13,6 +13,6 @@ abbrev pub invariant-loop-source : goal.invariant-loop-source
 invariant-loop-source l = record {
   there : lost_source (tables_in l.image) (srcs_view (drop l.source-index l.sources)) ≡ None;
   room : length l.columns ≡ l.before + length (columns_in (tables_in l.image) (srcs_view (drop l.source-index l.sources)));
-  listed : (more : List Source) → AreListedFor (parts_of l.image) (look_view l.look) (tables_in l.image) (is_kept (query_view l.query) l.columns) l.before (srcs_view (drop l.source-index l.sources)) more
-      → AreListedFor (parts_of l.image) (look_view l.look) (tables_in l.image) (is_kept (query_view l.query) l.columns) 0 (srcs_view l.sources) (l.listings.items ++ more);
+  listed : (more : List Source) → AreListedFor (parts_of l.image) (look_view (parts_of l.image) l.look) (tables_in l.image) (is_kept (query_view l.query) l.columns) l.before (srcs_view (drop l.source-index l.sources)) more
+      → AreListedFor (parts_of l.image) (look_view (parts_of l.image) l.look) (tables_in l.image) (is_kept (query_view l.query) l.columns) 0 (srcs_view l.sources) (l.listings.items ++ more);
 }

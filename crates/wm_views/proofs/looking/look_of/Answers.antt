@@ -13,8 +13,9 @@ family_of-requires-clause-there c =
 
 pub returns-clause-look : goal.returns-clause-look
 returns-clause-look c = record {
-  version = c.version_of.ensures;
+  reading = λ t. refl;
   period = λ t. refl;
   home = c.requires.home;
   family = subst (λ (a : Space). IsFamilyOf (parts_of c.args.image.now) a (family_view c.family_of.result)) c.conflicting_space-space.ensures c.family_of.ensures;
+  difference = refl;
 }

@@ -19,14 +19,14 @@ sources_in-requires-clause-columns c = c.as_slice.ensures ∙ c.requires.columns
 pub answer-requires-clause-columns : goal.answer-requires-clause-columns
 answer-requires-clause-columns c =
     c.requires.columns ∙ ap (λ (ss : List SrcNode). columns_in (tables_in c.args.image.now) (srcs_view ss)) (sym c.as_slice-sources.ensures.value)
-    ∙ columns_listed_for c.args.image.now (look_view c.args.look.now) (is_kept (query_view c.args.query.now) c.as_slice.result.now) (srcs_view c.as_slice-sources.result.now) c.in_ok-listings.listings c.requires.rules c.in_ok-listings.ensures
+    ∙ columns_listed_for c.args.image.now (look_view (parts_of c.args.image.now) c.args.look.now) (is_kept (query_view c.args.query.now) c.as_slice.result.now) (srcs_view c.as_slice-sources.result.now) c.in_ok-listings.listings c.requires.rules c.in_ok-listings.ensures
 
 pub answer-requires-clause-fitting : goal.answer-requires-clause-fitting
 answer-requires-clause-fitting c =
-    rows_listed_for c.args.image.now (look_view c.args.look.now) (is_kept (query_view c.args.query.now) c.as_slice.result.now) 0 (srcs_view c.as_slice-sources.result.now) c.in_ok-listings.listings c.requires.rules c.in_ok-listings.ensures
+    rows_listed_for c.args.image.now (look_view (parts_of c.args.image.now) c.args.look.now) (is_kept (query_view c.args.query.now) c.as_slice.result.now) 0 (srcs_view c.as_slice-sources.result.now) c.in_ok-listings.listings c.requires.rules c.in_ok-listings.ensures
 
 pub returns : goal.returns
-returns c = answer_listed c.answer.result c.args.image.now (look_view c.args.look.now) (query_view c.args.query.now) c.as_slice.result.now c.in_ok-listings.listings c.requires.rules (c.as_slice.ensures ∙ c.requires.columns)
-    (subst (λ (ss : List SrcNode). AreListedFor (parts_of c.args.image.now) (look_view c.args.look.now) (tables_in c.args.image.now) (is_kept (query_view c.args.query.now) c.as_slice.result.now) 0 (srcs_view ss) c.in_ok-listings.listings) c.as_slice-sources.ensures.value
+returns c = answer_listed c.answer.result c.args.image.now (look_view (parts_of c.args.image.now) c.args.look.now) (query_view c.args.query.now) c.as_slice.result.now c.in_ok-listings.listings c.requires.rules (c.as_slice.ensures ∙ c.requires.columns)
+    (subst (λ (ss : List SrcNode). AreListedFor (parts_of c.args.image.now) (look_view (parts_of c.args.image.now) c.args.look.now) (tables_in c.args.image.now) (is_kept (query_view c.args.query.now) c.as_slice.result.now) 0 (srcs_view ss) c.in_ok-listings.listings) c.as_slice-sources.ensures.value
     c.in_ok-listings.ensures)
     c.answer.ensures

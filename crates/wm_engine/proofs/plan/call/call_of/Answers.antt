@@ -3,15 +3,13 @@ use Rattle.std.proofs.lemmas.Option.{same_Some, none-some}
 use Rattle.wm_syntax.specs.Views.{filter_view}
 use Rattle.wm_grammar.specs.declared.procedure.Procedure.{Procedure}
 use Rattle.wm_grammar.specs.declared.procedure.Procedure.TheVariants as procedures
-use Rattle.wm_model.specs.Step.{call, call_with, not_built}
-use Rattle.wm_plan.proofs.Planning.{refused, does_here, for_any, for_moment, for_one, for_open, for_open_one, for_these, forks_none, is_open_here}
-use Rattle.wm_engine.proofs.Calling.{other_call}
-use Rattle.wm_plan.specs.Views.{answer_view}
+use Rattle.wm_model.specs.Step.{call, call_with}
+use Rattle.wm_plan.proofs.Planning.{does_here, for_any, for_moment, for_one, for_open, for_open_one, for_these, is_open_here}
 use Rattle.wm_calls.specs.Arguments.{is_true_given}
 use Rattle.wm_grammar.specs.declared.procedure.Parameter.TheVariants as parameters
 use Rattle.wm_engine.specs.NetLines.{nets_call}
 use Rattle.wm_engine.proofs.NetLines.{merges_alone}
-use Rattle.wm_spending.specs.Nets.{AreNets, Net, Nothing}
+use Rattle.wm_spending.specs.Nets.{AreNets, Net}
 use Rattle.wm_engine.proofs.plan.call.call_of.Goals as goal
 
 pub returns-in-EnableVersioning-clause-does : goal.returns-in-EnableVersioning-clause-does
@@ -48,6 +46,16 @@ pub returns-in-SetValidTime-clause-does : goal.returns-in-SetValidTime-clause-do
 returns-in-SetValidTime-clause-does c =
     for_one c.args.image.now c.args.sessions.now c.args.moment c.valid_time_call.result (call c.args.session.now (Some procedures.SetValidTime) c.args.called.given.args.now) (call_with c.args.session.now (Some c.args.procedure) c.args.called.given.args.now (filter_view c.args.called.given.condition.now) c.args.called.empty)
     (λ s. ap (λ (p : Procedure). call_with c.args.session.now (Some p) c.args.called.given.args.now (filter_view c.args.called.given.condition.now) c.args.called.empty s) c.in-SetValidTime.is) c.valid_time_call.ensures.does
+
+pub returns-in-GotoDate-clause-does : goal.returns-in-GotoDate-clause-does
+returns-in-GotoDate-clause-does c =
+    does_here c.args.image.now c.args.sessions.now c.args.moment c.goto_date_call.result (call c.args.session.now (Some procedures.GotoDate) c.args.called.given.args.now) (call_with c.args.session.now (Some c.args.procedure) c.args.called.given.args.now (filter_view c.args.called.given.condition.now) c.args.called.empty)
+    (λ s. ap (λ (p : Procedure). call_with c.args.session.now (Some p) c.args.called.given.args.now (filter_view c.args.called.given.condition.now) c.args.called.empty s) c.in-GotoDate.is) c.goto_date_call.ensures.does
+
+pub returns-in-SetDiffVersions-clause-does : goal.returns-in-SetDiffVersions-clause-does
+returns-in-SetDiffVersions-clause-does c =
+    does_here c.args.image.now c.args.sessions.now c.args.moment c.set_difference_call.result (call c.args.session.now (Some procedures.SetDiffVersions) c.args.called.given.args.now) (call_with c.args.session.now (Some c.args.procedure) c.args.called.given.args.now (filter_view c.args.called.given.condition.now) c.args.called.empty)
+    (λ s. ap (λ (p : Procedure). call_with c.args.session.now (Some p) c.args.called.given.args.now (filter_view c.args.called.given.condition.now) c.args.called.empty s) c.in-SetDiffVersions.is) c.set_difference_call.ensures.does
 
 pub returns-in-RollbackToSp-clause-does : goal.returns-in-RollbackToSp-clause-does
 returns-in-RollbackToSp-clause-does c =
@@ -119,19 +127,6 @@ returns-in-RollbackResolve-clause-does c =
     for_one c.args.image.now c.args.sessions.now c.args.moment c.rollback_resolve_call.result (call c.args.session.now (Some procedures.RollbackResolve) c.args.called.given.args.now) (call_with c.args.session.now (Some c.args.procedure) c.args.called.given.args.now (filter_view c.args.called.given.condition.now) c.args.called.empty)
     (λ s. ap (λ (p : Procedure). call_with c.args.session.now (Some p) c.args.called.given.args.now (filter_view c.args.called.given.condition.now) c.args.called.empty s) c.in-RollbackResolve.is) c.rollback_resolve_call.ensures.does
 
-pub returns-in_default : goal.returns-in_default
-returns-in_default c = record {
-  does =
-      refused c.args.image.now c.args.sessions.now c.args.moment c.answered.result not_built (call_with c.args.session.now (Some c.args.procedure) c.args.called.given.args.now (filter_view c.args.called.given.condition.now) c.args.called.empty) c.answered.ensures.edits c.answered.ensures.seating
-      (ap answer_view c.answered.ensures.answer ∙ c.not_built.ensures) c.requires.rules
-      (λ s. other_call c.args.session.now c.args.procedure c.args.called.given.args.now (filter_view c.args.called.given.condition.now) c.args.called.empty s c.in_default.not-EnableVersioning c.in_default.not-CreateWorkspace c.in_default.not-CreateSavepoint c.in_default.not-GotoWorkspace c.in_default.not-GotoSavepoint c.in_default.not-SetConflictWorkspace c.in_default.not-SetValidTime
-      c.in_default.not-RollbackToSp c.in_default.not-RemoveWorkspace c.in_default.not-RefreshWorkspace c.in_default.not-MergeWorkspace c.in_default.not-FreezeWorkspace c.in_default.not-UnfreezeWorkspace c.in_default.not-SetLockingOn c.in_default.not-SetLockingOff c.in_default.not-LockRows c.in_default.not-UnlockRows c.in_default.not-BeginResolve c.in_default.not-ResolveConflicts
-      c.in_default.not-CommitResolve c.in_default.not-RollbackResolve);
-  idle = λ idle. (c.answered.ensures.edits, c.answered.ensures.seating);
-  few = λ forks. forks_none c.answered.result c.answered.ensures.edits;
-  nets = λ net named. Nothing c.answered.ensures.edits;
-}
-
 -- ---- lines that refresh or merge
 
 pub returns-in-EnableVersioning-clause-nets : goal.returns-in-EnableVersioning-clause-nets
@@ -154,6 +149,12 @@ returns-in-SetConflictWorkspace-clause-nets c = λ net named. absurd (none-some 
 
 pub returns-in-SetValidTime-clause-nets : goal.returns-in-SetValidTime-clause-nets
 returns-in-SetValidTime-clause-nets c = λ net named. absurd (none-some net (ap (λ (p : Procedure). nets_call (Some p) c.args.called.given.args.now) (sym c.in-SetValidTime.is) ∙ named))
+
+pub returns-in-GotoDate-clause-nets : goal.returns-in-GotoDate-clause-nets
+returns-in-GotoDate-clause-nets c = λ net named. absurd (none-some net (ap (λ (p : Procedure). nets_call (Some p) c.args.called.given.args.now) (sym c.in-GotoDate.is) ∙ named))
+
+pub returns-in-SetDiffVersions-clause-nets : goal.returns-in-SetDiffVersions-clause-nets
+returns-in-SetDiffVersions-clause-nets c = λ net named. absurd (none-some net (ap (λ (p : Procedure). nets_call (Some p) c.args.called.given.args.now) (sym c.in-SetDiffVersions.is) ∙ named))
 
 pub returns-in-RollbackToSp-clause-nets : goal.returns-in-RollbackToSp-clause-nets
 returns-in-RollbackToSp-clause-nets c = λ net named. absurd (none-some net (ap (λ (p : Procedure). nets_call (Some p) c.args.called.given.args.now) (sym c.in-RollbackToSp.is) ∙ named))

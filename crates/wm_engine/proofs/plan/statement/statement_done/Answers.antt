@@ -59,8 +59,8 @@ update-requires-clause-lasting c = λ none.
     rw c.as_slice-in-Update.ensures.value
     (update_lasts c.in-Update.table (sets_view c.in-Update.sets.items) (filter_view c.in-Update.filter) (ap has_empty_period (ap statement_view (sym c.in-Update.is)) ∙ sym c.has_empty_period-empty.ensures ∙ none))
 
-pub select-requires-clause-lasting : goal.select-requires-clause-lasting
-select-requires-clause-lasting c = λ none. select_lasts (query_view c.in-Select.query) (ap has_empty_period (ap statement_view (sym c.in-Select.is)) ∙ sym c.has_empty_period-empty.ensures ∙ none)
+pub select-requires : goal.select-requires
+select-requires c = record { lasting = λ none. select_lasts (query_view c.in-Select.query) (ap has_empty_period (ap statement_view (sym c.in-Select.is)) ∙ sym c.has_empty_period-empty.ensures ∙ none) }
 
 -- ---- lines that refresh or merge
 

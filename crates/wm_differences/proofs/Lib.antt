@@ -1,0 +1,6 @@
+pub mod Keeping
+pub mod Comparing
+pub mod Gathering
+pub mod FirstOn
+pub mod Onward
+pub mod Meant
