@@ -21,7 +21,8 @@ class Calls:
                 "BEGINRESOLVE": self.begin_resolve, "RESOLVECONFLICTS": self.resolve_conflicts, "COMMITRESOLVE": self.commit_resolve,
                 "ROLLBACKRESOLVE": self.rollback_resolve, "FREEZEWORKSPACE": self.freeze_workspace,
                 "UNFREEZEWORKSPACE": self.unfreeze_workspace, "SETLOCKINGON": self.set_locking_on, "SETLOCKINGOFF": self.set_locking_off,
-                "LOCKROWS": self.lock_rows, "UNLOCKROWS": self.unlock_rows}[tree.procedure](session, tree, given)
+                "LOCKROWS": self.lock_rows, "UNLOCKROWS": self.unlock_rows, "GOTODATE": self.goto_date,
+                "SETDIFFVERSIONS": self.set_diff_versions}[tree.procedure](session, tree, given)
 
     def test_arguments(self, tree, needed, bad_marks=(), **kinds):
         """Refuses the first argument that does not fit; 'kinds' tells for each parameter its kind, or the values it takes. The marks of a
@@ -85,6 +86,8 @@ class Calls:
         self.test_arguments(tree, ["WORKSPACE"], WORKSPACE="text", ISREFRESHED=[False], DESCRIPTION="text")
         if name in self.workspaces:
             refuse("WM-021 workspace exists", printed(name))
+        if session.date is not None:
+            refuse("WM-030 not at LATEST")
         self.test_frozen(session, session.workspace, "manage")
         if len(self.workspaces) == self.MOST_WORKSPACES:
             refuse("WM-071 workspaces", self.MOST_WORKSPACES)
@@ -93,8 +96,8 @@ class Calls:
         point = self.kept(parent) if session.savepoint is None else replace(parent.savepoints[session.savepoint])
         self.keep_implicitly(parent, point)
         number = 1 + max(workspace.number for workspace in self.workspaces.values())
-        self.workspaces[name] = Workspace(number, parent.number, point.place, point.log_length, point.content, point.content, copied(point.content),
-                                          turns=[(point.log_length, point.rebases)])
+        self.workspaces[name] = Workspace(number, parent.number, self.moment, point.place, point.log_length, point.content, point.content,
+                                          copied(point.content), turns=[(point.log_length, point.rebases)])
         self.changed()
         return [], "OK"
 
@@ -105,7 +108,8 @@ class Calls:
     def kept(self, workspace):
         """A savepoint of what is newest, at a new place."""
         workspace.place += 1
-        return Savepoint(workspace.place, copied(workspace.content), workspace.own, len(workspace.log), workspace.rebases, workspace.settled)
+        return Savepoint(workspace.place, self.moment, copied(workspace.content), workspace.own, len(workspace.log), workspace.rebases,
+                         workspace.settled)
 
     def keep_implicitly(self, workspace, point):
         workspace.implicit += 1
@@ -139,7 +143,7 @@ class Calls:
         self.test_arguments(tree, ["WORKSPACE"], WORKSPACE="text")
         self.workspace(given["WORKSPACE"])
         self.test_frozen(session, given["WORKSPACE"], "enter")
-        session.workspace, session.savepoint = given["WORKSPACE"], None
+        session.workspace, session.savepoint, session.date = given["WORKSPACE"], None, None
         return [], "OK"
 
     def set_conflict_workspace(self, session, tree, given):
@@ -153,7 +157,7 @@ class Calls:
         name = given.get("SAVEPOINT_NAME") or b"LATEST"
         if name != b"LATEST" and name not in self.workspaces[session.workspace].savepoints:
             refuse("WM-022 no savepoint", printed(name))
-        session.savepoint = None if name == b"LATEST" else name
+        session.savepoint, session.date = None if name == b"LATEST" else name, None
         return [], "OK"
 
     def rollback_to_savepoint(self, session, tree, given):

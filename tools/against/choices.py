@@ -40,15 +40,11 @@ ODD_LINES = [
     b"DISCONNECT", b"DISCONNECT A B", b"A: SELECT 'a FROM BUD", b"A: SELECT 'a'' FROM BUD", b"A: SELECT 1 FROM BUD ; A",
     b"A; SELECT * FROM BUD", b"A: SELECT*FROM BUD", b"A: SELECT 1FROM BUD", b"A: SELECT 1 -- FROM BUD", b"A:DELETE BUD WHERE ID=>5",
     *(b"A: INSERT INTO BUD VALUES (1, '" + b"y" * size + b"')" for size in (1999, 16351, 16352, 16353))]
-LATER = [
-    "SELECT * FROM BUD_DIFF", "SELECT * FROM NOPE_DIFF X , BUD_CONF", "SELECT 1 FROM X_LOCK , Y_DIFF",
-    "EXEC DBMS_WM . SetDiffVersions ( 'A' , 'B' , 'C' , 'D' )",
-    "EXEC DBMS_WM . SetDiffVersions ( 'A' , 'B' , 'C' , 'D' , 'E' )", "EXEC DBMS_WM . SetDiffVersions ( workspace1 => 'A' )",
-    "EXEC DBMS_WM . GotoDate ( SYSDATE )", "EXEC DBMS_WM . GotoDate ( SYSDATE , 1 )"]
 # What the columns of views hold, and what they never hold.
 MARKS = {"WM_DELETED": ["'NO'", "'NO'", "'YES'", "'NE'", "'no'"], "WM_OPTYPE": ["'I'", "'U'", "'U'", "'D'", "'X'"],
          "WM_WORKSPACE": ["'LIVE'", "'W'", "'BASE'", "'V'", "'live'"], "WM_USERNAME": ["'ANN'", "'BEN'", "'KIM'", "'ann'"],
-         "WM_LOCKMODE": ["'E'", "'S'", "'WE'", "'VE'", "'e'"],
+         "WM_LOCKMODE": ["'E'", "'S'", "'WE'", "'VE'", "'e'"], "WM_CODE": ["'NC'", "'U'", "'D'", "'I'", "'NE'", "'nc'"],
+         "WM_DIFFVER": ["'DiffBase'", "'DiffBase'", "'LIVE, LATEST'", "'W, LATEST'", "'W, S'", "'diffbase'"],
          "WM_CREATETIME": ["SYSDATE", "DATE '2020-01-01'", "DATE '2020-01-02'"], "WM_RETIRETIME": ["SYSDATE", "NULL", "DATE '2020-01-02'"]}
 # Lines on the views of a table, with @ in its place.
 CONFLICTS = [
@@ -58,6 +54,15 @@ CONFLICTS = [
     "SELECT c . WM_WORKSPACE , c . WM_DELETED FROM @_CONF c , @_CONF d WHERE c . WM_WORKSPACE = d . WM_WORKSPACE", "SELECT NOPE FROM @_CONF",
     "SELECT * FROM @_CONF WHERE WM_WORKSPACE IN ( 'BASE' , 'LIVE' )", "SELECT WM_OPTYPE FROM @_CONF", "SELECT 1 FROM @_CONF , @_HIST", "SELECT * FROM @_CONF WHERE WM_DELETED = 1",
     "INSERT INTO @_CONF VALUES ( 1 )", "DELETE FROM @_CONF", "UPDATE @_CONF SET WM_DELETED = 'NO'", "SELECT * FROM @_CONF WHERE WM_PERIOD ( SYSDATE , SYSDATE ) IS NULL"]
+DIFFERENCES = [
+    "SELECT * FROM @_DIFF", "SELECT * FROM @_DIFF", "SELECT * FROM @_DIFF", "SELECT * FROM @_DIFF WHERE WM_CODE <> 'NC'",
+    "SELECT WM_DIFFVER , WM_CODE , COUNT ( * ) FROM @_DIFF GROUP BY WM_DIFFVER , WM_CODE",
+    "SELECT WM_CODE , COUNT ( * ) AS N FROM @_DIFF GROUP BY WM_CODE ORDER BY N DESC , WM_CODE", "SELECT DISTINCT WM_DIFFVER FROM @_DIFF ORDER BY 1 DESC",
+    "SELECT * FROM @_DIFF WHERE WM_DIFFVER <> 'DiffBase' ORDER BY WM_CODE", "SELECT d . WM_CODE , t . * FROM @_DIFF d , @ t",
+    "SELECT d . WM_CODE , e . WM_CODE FROM @_DIFF d JOIN @_DIFF e ON d . WM_DIFFVER < e . WM_DIFFVER", "SELECT * FROM @_CONF , @_DIFF",
+    "SELECT d . WM_CODE , c . WM_DELETED FROM @_DIFF d , @_CONF c", "SELECT 1 FROM @_HIST , @_DIFF", "SELECT WM_WORKSPACE FROM @_DIFF",
+    "SELECT * FROM @_DIFF WHERE WM_CODE = 1", "SELECT SUM ( WM_CODE ) FROM @_DIFF", "SELECT WM_VALID FROM @_DIFF", "DELETE FROM @_DIFF",
+    "INSERT INTO @_DIFF VALUES ( 1 )", "UPDATE @_DIFF SET WM_CODE = 'U'", "SELECT * FROM @_DIFF WHERE WM_PERIOD ( SYSDATE , SYSDATE ) IS NULL"]
 HISTORIES = [
     "SELECT * FROM @_HIST", "SELECT * FROM @_HIST", "SELECT * FROM @_HIST", "SELECT * FROM @_HIST WHERE WM_OPTYPE = 'D'",
     "SELECT WM_OPTYPE , COUNT ( * ) FROM @_HIST GROUP BY WM_OPTYPE", "SELECT WM_USERNAME , COUNT ( * ) , MAX ( WM_CREATETIME ) FROM @_HIST GROUP BY WM_USERNAME",

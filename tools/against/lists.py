@@ -139,13 +139,15 @@ def clash(own, news, settled, moment):
     return entry_at(own, moment) is not None and entry_at(unsettled, moment) is not None
 
 
-def stretches(own, news, settled, contents):
-    """Of one key, in order of time: the longest periods at each moment of which both sides clash, and each content has one row or none."""
-    lists = [own, [entry for _, entry in news], settled, *contents]
-    ends = sorted({end for entries in lists for entry in entries for end in entry.period})
+def stretches(lists, contents, is_wanted):
+    """Of one key, in order of time: the longest periods at each moment of which something is wanted, and each content has one row or none.
+    The lists are those at whose ends it may change."""
+    ends = sorted({end for entries in [*lists, *contents] for entry in entries for end in entry.period})
     found, stamps = [], None  # of the moments that come before
     for start, till in zip(ends, ends[1:]):
-        here = [stamp_at(entries, start) for entries in contents] if clash(own, news, settled, start) else None
+        here = [stamp_at(entries, start) for entries in contents]
+        if not is_wanted(start, here):
+            here = None
         if here is not None:
             begun = found.pop().start if here == stamps else start
             found.append(Period(begun, till))
@@ -160,6 +162,17 @@ def conflicts(own, news, settled, contents, table):
         mine = [entry for entry in own if (entry.table, entry.key) == (table, key)]
         theirs = [(position, entry) for position, entry in news if (entry.table, entry.key) == (table, key)]
         held = [entries_of(content, table, key) for content in contents]
-        for period in stretches(mine, theirs, entries_of(settled, table, key), held):
+        marks = entries_of(settled, table, key)
+        for period in stretches([mine, [entry for _, entry in theirs], marks], held, lambda moment, _: clash(mine, theirs, marks, moment)):
             there = [entry_at(entries, period.start) for entries in held]
             yield key, period, [entry.row if entry else None for entry in there]
+
+
+def apart(contents, table):
+    """The stretches of a table on which one of two contents differs from the first of the three, by key and time: the key, the period, and the
+    entry of the row that each has, or None."""
+    for key in sorted({key for content in contents for key in content.get(table, {})}):
+        held = [entries_of(content, table, key) for content in contents]
+        for period in stretches([], held, lambda _, stamps: len(set(stamps)) > 1):
+            there = [entry_at(entries, period.start) for entries in held]
+            yield key, period, [entry if entry and entry.row is not None else None for entry in there]

@@ -7,10 +7,8 @@ from trees import (
 )
 from values import DATE_FORMS, END, GREATEST, Instant, MASKS, Period, TIMESTAMP_FORMS, instant
 
-NEXT_STAGES = {
-    "GOTODATE": "IN_DATE", "SETDIFFVERSIONS": "1 2 3 4",
-}
-BUILT = {
+# The arguments of SetDiffVersions have no names.
+CALLS = {
     "ENABLEVERSIONING": "TABLE_NAME HIST ISTOPOLOGY VALIDTIME", "CREATEWORKSPACE": "WORKSPACE ISREFRESHED DESCRIPTION",
     "CREATESAVEPOINT": "WORKSPACE SAVEPOINT_NAME DESCRIPTION", "GOTOWORKSPACE": "WORKSPACE", "GOTOSAVEPOINT": "SAVEPOINT_NAME",
     "SETVALIDTIME": "VALIDFROM VALIDTILL", "ROLLBACKTOSP": "WORKSPACE SAVEPOINT_NAME", "REMOVEWORKSPACE": "WORKSPACE",
@@ -19,10 +17,10 @@ BUILT = {
     "RESOLVECONFLICTS": "WORKSPACE TABLE_NAME WHERE_CLAUSE KEEP", "FREEZEWORKSPACE": "WORKSPACE FREEZEMODE FREEZEWRITER",
     "UNFREEZEWORKSPACE": "WORKSPACE", "SETLOCKINGON": "LOCKMODE", "SETLOCKINGOFF": "",
     "LOCKROWS": "WORKSPACE TABLE_NAME WHERE_CLAUSE LOCK_MODE", "UNLOCKROWS": "WORKSPACE TABLE_NAME WHERE_CLAUSE",
+    "GOTODATE": "IN_DATE", "SETDIFFVERSIONS": "1 2 3 4",
 }
-PARAMETERS = {procedure: names.split() for procedure, names in (NEXT_STAGES | BUILT).items()}
+PARAMETERS = {procedure: names.split() for procedure, names in CALLS.items()}
 VIEWS = ("_CONF", "_DIFF", "_HIST", "_LOCK")
-NEXT_VIEWS = ("_DIFF",)
 DEEPEST = 64
 
 
@@ -39,7 +37,6 @@ class Parser:
         self.tokens, self.place, self.depth = tokens_of(line), 0, 0
         self.moment = moment
         self.bad_literals = []  # columns
-        self.is_later = False  # whether the line uses what is not built yet
         self.has_empty_period = False
 
     @property
@@ -271,7 +268,6 @@ class Parser:
         table = self.take_id()
         label = self.step().value if self.next.is_id() else table.value
         made.sources.append(Source(table.column, table.value, label))
-        self.is_later |= table.value.endswith(NEXT_VIEWS)
 
     def order(self):
         if self.next.kind == "number":
@@ -449,7 +445,6 @@ class Parser:
         if self.next.kind != "word" or self.next.value not in PARAMETERS:
             raise BadToken(self.next)
         made = Call(self.step().value)
-        self.is_later |= made.procedure not in BUILT
         if self.took("("):
             by_name, by_place = list(PARAMETERS[made.procedure]), list(PARAMETERS[made.procedure])
             if not self.sees(")"):

@@ -5,6 +5,7 @@ from lists import Entry, entries_of, rows_of
 from locks import Locks
 from merges import Merges
 from parser import BadToken, Parser, VIEWS
+from points import Points
 from queries import Queries
 from refusals import Refused, first_of, refuse
 from scopes import Scope, Table, View, WM_VALID, names_of
@@ -13,7 +14,7 @@ from trees import At, Call, Connect, Create, Delete, Disconnect, Insert, Select,
 from values import ALWAYS, Instant, printed, weight
 
 
-class Reference(Queries, Calls, Freezes, Locks, Merges):
+class Reference(Queries, Calls, Freezes, Locks, Merges, Points):
     """A store, its sessions, and what each line answers."""
 
     MOST_ROWS, MOST_SESSIONS, MOST_TABLES, MOST_WORKSPACES, MOST_SAVEPOINTS = 100_000, 256, 256, 1024, 4096
@@ -21,7 +22,7 @@ class Reference(Queries, Calls, Freezes, Locks, Merges):
 
     def __init__(self, limit):
         self.limit, self.stamps, self.work, self.last_moment, self.moment = limit, 0, 0, Instant(0), Instant(0)
-        self.tables, self.workspaces, self.sessions = {}, {b"LIVE": Workspace(0, None, 0, 0, {}, {}, {})}, {}
+        self.tables, self.workspaces, self.sessions = {}, {b"LIVE": Workspace(0, None, Instant(0), 0, 0, {}, {}, {})}, {}
 
     def begin(self, now):
         self.sessions = {}
@@ -52,8 +53,6 @@ class Reference(Queries, Calls, Freezes, Locks, Merges):
             refuse("WM-003 syntax", bad.column)
         if parser.bad_literals:
             refuse("WM-065 literal", min(parser.bad_literals))
-        if parser.is_later:
-            refuse("WM-099 not built yet")
         self.has_empty_period = parser.has_empty_period
         return tree
 
@@ -143,8 +142,15 @@ class Reference(Queries, Calls, Freezes, Locks, Merges):
         for view in views:
             if view.kind == "HIST" and not view.table.has_history:
                 refuse("WM-018 no history", view.table.name)
-        if any(view.kind == "CONF" for view in views):
-            self.workspace(self.conflict_workspace(session))
+        for view in views:
+            for name in self.meant(session, view):
+                self.workspace(name)
+        if any(view.kind == "DIFF" for view in views):
+            self.test_points(session.difference or [])
+
+    def meant(self, session, view):
+        """The workspaces whose names a session keeps for a view."""
+        return {"CONF": [self.conflict_workspace(session)], "DIFF": [name for name, _ in session.difference or []]}.get(view.kind, [])
 
     # CREATE TABLE
 
@@ -180,7 +186,7 @@ class Reference(Queries, Calls, Freezes, Locks, Merges):
     # INSERT, UPDATE, DELETE
 
     def at_latest(self, session):
-        if session.savepoint is not None:
+        if session.savepoint is not None or session.date is not None:
             refuse("WM-030 not at LATEST")
 
     def test_periods(self):
@@ -222,7 +228,7 @@ class Reference(Queries, Calls, Freezes, Locks, Merges):
         row = tuple(given.get(name) for name in declared)
         self.test_rows(table, [row])
         key, period = row[table.key], given.get("WM_VALID") or table.has_periods and session.period or ALWAYS
-        for old, _ in rows_of(entries_of(self.content(session), table.name, key)):
+        for old, _ in rows_of(entries_of(self.content(session, table), table.name, key)):
             if old.overlaps(period):
                 refuse("WM-060 key there", printed(key), *[printed(old.shared(period))] * table.has_periods)
         self.write(session, table, [(key, period, row, "I")])
@@ -280,7 +286,7 @@ class Reference(Queries, Calls, Freezes, Locks, Merges):
         for key in sorted({row[table.key] for _, _, row in changes}):
             mine = [change for change in changes if change[2][table.key] == key]
             old, new = [change[0] for change in mine], [change[1] for change in mine]
-            stays = [period for period, _ in rows_of(entries_of(self.content(session), table.name, key)) if period not in old]
+            stays = [period for period, _ in rows_of(entries_of(self.content(session, table), table.name, key)) if period not in old]
             shared = [one.shared(other) for place, one in enumerate(new) for other in stays + new[:place] if one.overlaps(other)]
             if shared:
                 refuse("WM-060 key there", printed(key), printed(min(shared)))

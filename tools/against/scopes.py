@@ -33,7 +33,7 @@ def added(names):
 
 @dataclass
 class View:
-    """The conflicts of a table, its history, or its locks."""
+    """The conflicts of a table, its differences, its history, or its locks."""
     name: str
     table: Table
 
@@ -47,6 +47,8 @@ class View:
         if self.kind == "LOCK":
             keys = [column for place, column in enumerate(self.table.columns) if place == self.table.key]
             return [*keys, *[WM_VALID] * self.table.has_periods, *added("WM_WORKSPACE WM_LOCKMODE WM_USERNAME")]
+        if self.kind == "DIFF":
+            return self.table.shown_columns() + added("WM_DIFFVER WM_CODE")
         return added("WM_WORKSPACE") + self.table.shown_columns() + added("WM_DELETED")
 
 

@@ -1,11 +1,11 @@
 """Random scripts, in which most lines are in order and the others miss it narrowly."""
 import random
 
-from choices import LONG_NAME, ODD_LINES, SAVEPOINTS, STRAY
+from choices import DIFFERENCES, LONG_NAME, ODD_LINES, SAVEPOINTS, STRAY
 from reference import Reference, ended
 from spoken import Spoken
 from statements import Statements
-from values import TIMESTAMP_FORMS, instant, printed
+from values import END, Instant, TIMESTAMP_FORMS, instant, printed
 from words import Words
 
 
@@ -20,6 +20,8 @@ class Writer(Words, Statements, Spoken):
         self.branching = self.random.choice([1, 1, 1, 3])  # how often lines on workspaces and savepoints come
         self.locking = self.random.choice([0.5, 0.5, 1, 4])  # how often rows are locked
         self.freezing = self.random.choice([0.5, 0.5, 1, 4])  # how often a workspace is frozen
+        self.dating = self.random.choice([0.5, 0.5, 1, 4])  # how often a session goes to a date
+        self.comparing = self.random.choice([0.5, 0.5, 1, 4])  # how often points of workspaces are compared
 
     def chance(self, likely):
         return self.random.random() < likely
@@ -82,6 +84,10 @@ class Writer(Words, Statements, Spoken):
             yield from self.one([self.locked, self.held, self.barred])()
         if self.chance(0.15 * self.freezing):
             yield from self.frozen()
+        if self.chance(0.2 * self.dating):
+            yield from self.aged()
+        if self.chance(0.2 * self.comparing):
+            yield from self.compared()
         if self.chance(0.4):
             yield self.spaced(self.set_valid_time().split(" "))
         if not part and self.chance(0.02):
@@ -247,6 +253,65 @@ class Writer(Words, Statements, Spoken):
                 self.remove: 2, self.merge: 4, self.refresh: 3, self.resolve: 4, self.disconnect: 0.7, self.connect: 0.7,
                 self.goto_savepoint: 1, self.set_conflict: 0.5})().split(" "))
 
+    def aged(self):
+        """Rows change on several days, with savepoints in between; then they are read on dates, and what cannot be done there is tried."""
+        name, lines = self.child_name()
+        yield from lines if self.chance(0.5) else []
+        name = self.one([b"LIVE", name if name in self.reference.workspaces else b"LIVE"])
+        for session in "AB":
+            yield b"%s: EXEC DBMS_WM.GotoWorkspace(%s)" % (session.encode(), printed(name))
+        for _ in range(self.one([3, 6, 9])):
+            moment = min(self.reference.moment + self.one([0, 1, 86_400]), END - 1)
+            yield b"AT TIMESTAMP '%s'" % printed(Instant(moment))
+            for _ in range(self.one([0, 1, 2])):
+                yield self.spaced(self.one([self.insert, self.update, self.update, self.move, self.delete])().split(" "))
+            if self.chance(0.4):
+                yield b"A: EXEC DBMS_WM.CreateSavepoint(%s, '%s')" % (printed(name), self.one(SAVEPOINTS).encode())
+        for _ in range(self.one([6, 12])):
+            yield self.spaced(self.goto_date(self.one("AB")).split(" "))
+            for _ in range(self.one([1, 2])):
+                yield self.spaced(self.weighted({
+                    self.select: 12, self.view: 3, self.insert: 1, self.update: 1, self.delete: 1, self.create_workspace: 1, self.rollback: 1.5,
+                    self.create_savepoint: 1, self.goto_savepoint: 1, self.set_valid_time: 1, self.lock_rows: 0.5, self.merge: 1,
+                    self.remove: 0.5, self.at: 0.5})().split(" "))
+
+    def compared(self):
+        """Workspaces differ, and points of them are compared; then these points move, or are lost."""
+        name, lines = self.child_name()
+        yield from lines
+        if name not in self.reference.workspaces:
+            return
+        yield from self.clashing(name)
+        if self.chance(0.3):
+            yield from self.lost(name)
+        if self.chance(0.6) and name in self.reference.workspaces:
+            yield b"A: EXEC DBMS_WM.GotoWorkspace(%s)" % printed(self.one([name, self.above(name)]))
+            yield from [b"A: EXEC DBMS_WM.CreateWorkspace('V')", b"A: EXEC DBMS_WM.GotoWorkspace('V')"]
+        for _ in range(self.one([6, 12, 24])):
+            has_pair = any(its.difference for its in self.reference.sessions.values())
+            yield self.spaced(self.weighted({
+                self.set_difference: 3 if has_pair else 12, self.view: 8 if has_pair else 1, self.insert: 2, self.update: 2, self.move: 1,
+                self.delete: 2, self.clash: 3, self.create_savepoint: 3, self.rollback: 3, self.merge: 2, self.refresh: 2, self.remove: 1,
+                self.create_workspace: 1, self.goto_workspace: 3, self.resolve: 1, self.disconnect: 0.2, self.connect: 0.2})().split(" "))
+
+    def lost(self, name):
+        """A point that a session compares goes by a rollback or by a removal, and others may take its name; each time it is looked at."""
+        quoted, ready = printed(name), [table for table, its in self.reference.tables.items() if its.is_versioned]
+        first, second = self.random.sample(SAVEPOINTS, 2)
+        saved = [b"A: EXEC DBMS_WM.CreateSavepoint(%s, '%s')" % (quoted, point.encode()) for point in (first, second)]
+        points = [b"%s, '%s'" % (quoted, second.encode()), self.one([b"'LIVE', 'LATEST'", b"%s, 'LATEST'" % quoted, b"%s, '%s'" % (quoted, first.encode())])]
+        self.random.shuffle(points)
+        rolled = b"B: EXEC DBMS_WM.RollbackToSP(%s, '%s')" % (quoted, first.encode())
+        away = [b"%c: EXEC DBMS_WM.GotoWorkspace('LIVE')" % session for session in b"AB"]
+        removed, made = (b"A: EXEC DBMS_WM.%s(%s)" % (call, quoted) for call in (b"RemoveWorkspace", b"CreateWorkspace"))
+        lines = [*saved, b"A: EXEC DBMS_WM.SetDiffVersions(%s, %s)" % tuple(points), None, rolled, None, *saved[1:] * self.chance(0.5), None]
+        if self.chance(0.6):
+            lines += [*away, b"A: EXEC DBMS_WM.SetConflictWorkspace(%s)" % quoted, removed, None, None, made, *saved * self.chance(0.5), None]
+        for line in lines:
+            if line is None and ready:
+                line = f"A: {self.one(DIFFERENCES[:12])}".replace("@", self.one(ready)).encode()
+            yield from [line] if line else []
+
     def closing(self):
         """Lines that list what stands in each workspace, and some of what stands at each savepoint."""
         ready = [name for name, table in self.reference.tables.items() if table.is_versioned]
@@ -258,6 +323,17 @@ class Writer(Words, Statements, Spoken):
             for savepoint in its.savepoints if ready else []:
                 yield f"Z: EXEC DBMS_WM.GotoSavepoint({printed(savepoint).decode()})"
                 yield f"Z: SELECT * FROM {self.one(ready)}"
+            for moment in {its.born, self.one([entry.moment for entry in its.log] or [its.born])} if ready else []:
+                yield f"Z: EXEC DBMS_WM.GotoDate({self.time(moment)})"
+                yield from (f"Z: SELECT * FROM {table}" for table in ready)
+        for one, other in self.pairs():
+            yield f"Z: EXEC DBMS_WM.SetDiffVersions({', '.join([*self.point(one), *self.point(other)])})"
+            yield from (f"Z: SELECT * FROM {table}_DIFF" for table in ready)
+
+    def pairs(self):
+        """Some pairs of workspaces."""
+        names = list(self.reference.workspaces)
+        return [(self.one(names), self.one(names)) for _ in range(min(len(names), 6))]
 
     # Lines and their bytes
 
@@ -273,7 +349,8 @@ class Writer(Words, Statements, Spoken):
             self.merge: 8 * self.branching, self.refresh: 5 * self.branching, self.clash: 9 * self.branching,
             self.resolve: 8 * self.branching, self.view: 12, self.set_conflict: 2 + 2 * self.branching, self.freeze: 2 * self.freezing,
             self.unfreeze: 0.3 + 8 * count, self.lock_rows: 4 * self.locking, self.unlock_rows: 2 * self.locking,
-            self.set_locking: 1.5 * self.locking, self.connect: 3, self.disconnect: 1, self.not_built: 1, self.set_valid_time: 10, self.at: 4,
+            self.set_locking: 1.5 * self.locking, self.goto_date: 3 * self.dating, self.set_difference: 3 * self.comparing, self.connect: 3,
+            self.disconnect: 1, self.set_valid_time: 10, self.at: 6,
             self.on_periods: 4, self.deep: 1, self.wide: 0.3, self.long: 0.3})().split(" ")
         if self.chance(0.12):
             words = self.damaged(words)

@@ -1,7 +1,7 @@
 """Random lines that are calls."""
 from choices import ENDS, LONG_NAME, SAVEPOINTS, TABLES, WORKSPACES
 from state import Session
-from values import printed
+from values import END, Instant, printed
 
 
 class Spoken:
@@ -130,7 +130,7 @@ class Spoken:
             entries = [entry for child in spaces.values() if child.parent == here.number for entry in child.own]
             if here.parent is not None:
                 entries += self.reference.parent_of(here).log[here.log_from:]
-            if its.savepoint is None and entries:
+            if its.savepoint is None and its.date is None and entries:
                 found.append((session, self.one(entries)))
         if not found:
             return self.update()
@@ -215,7 +215,7 @@ class Spoken:
 
     def lock_rows(self, workspace=None, session=None):
         """Rows of some keys of a table, most likely of one that has rows in the workspace."""
-        workspace = workspace or self.one(list(self.reference.workspaces))
+        workspace = workspace if workspace in self.reference.workspaces else self.one(list(self.reference.workspaces))
         held = self.reference.workspaces[workspace].content
         name = self.one(list(held)) if held and not self.is_bad(0.05) else self.table_name()
         arguments = [printed(workspace).decode() if not self.is_bad(0.04) else self.workspace_name(), f"'{self.one([name, name, name.lower()])}'",
@@ -248,6 +248,39 @@ class Spoken:
 
     def set_conflict(self):
         return self.call("SetConflictWorkspace", [self.named("workspace", self.workspace_name())], ["workspace => 'LIVE'", "5", "'W' , 'V'"])
+
+    def goto_date(self, session=None):
+        """To a date near a moment that occurs in the workspace where a session stands, at times to one before its birth."""
+        session = session or self.session()
+        its = self.reference.workspaces[self.reference.sessions[session].workspace] if session in self.reference.sessions else None
+        moments = {self.reference.moment, *([] if its is None else [
+            its.born, *(entry.moment for entry in its.log), *(point.moment for point in its.savepoints.values())])}
+        moment = self.one(sorted(moments)) + self.weighted({0: 8, -1: 4, 1: 2, 86_400: 1, -86_400: 1})
+        date = self.time(Instant(min(max(moment, 0), END)))
+        if self.chance(0.1):
+            date = self.one(["SYSDATE", "DBMS_WM . UNTIL_CHANGED", "DATE '0001-01-01'", "DATE '2020-01-01'", "TIMESTAMP '9999-12-31 23:59:59'"])
+        if self.is_bad(0.05):
+            date = self.one(["5", "NULL", "''", "TRUE", "'2020-01-01'", "DATE '2021-02-29'", self.period(), ""])
+        return self.call("GotoDate", [self.named("in_date", date)] if date else [], ["SYSDATE", "in_date => SYSDATE", "savepoint_name => 'S'"], session)
+
+    def point(self, name):
+        """A workspace and a savepoint of it, or what is newest there."""
+        points = list(self.reference.workspaces[name].savepoints)
+        return printed(name).decode(), printed(self.one(points)).decode() if points and self.chance(0.45) else "'LATEST'"
+
+    def set_difference(self, session=None):
+        """Two points of workspaces, most likely of two."""
+        names = list(self.reference.workspaces)
+        first, second = self.random.sample(names, 2) if len(names) > 1 and self.chance(0.8) else [self.one(names)] * 2
+        arguments = [*self.point(first), *self.point(second)]
+        if arguments[1::2] == ["'LATEST'", "'LATEST'"] and self.chance(0.7):
+            del arguments[1::2]
+        if self.is_bad(0.08):
+            at = self.random.randrange(len(arguments))
+            arguments = self.one([
+                [], arguments[:1], arguments[:3], [*arguments[:1], "NULL", "5"], [*arguments, "'S'"], ["workspace1 => 'LIVE'", *arguments[1:]],
+                *[[*arguments[:at], one, *arguments[at + 1:]] for one in ["'NOPE'", "NULL", "''", "5", "FALSE", "SYSDATE", "'live'", "'latest'", "'S'"]]])
+        return self.call("SetDiffVersions", arguments, ["'LIVE'", "'S'", "'LATEST'", "5", "savepoint1 => 'S'"], session)
 
     def set_valid_time(self):
         # Mostly a period that ends, so that it lies within rows.

@@ -2,7 +2,7 @@
 from dataclasses import dataclass, field
 
 from lists import copied, over, put
-from values import Period
+from values import Instant, Period
 
 
 @dataclass
@@ -10,8 +10,10 @@ class Session:
     user: str
     workspace: bytes = b"LIVE"
     savepoint: bytes | None = None
+    date: Instant | None = None
     period: Period | None = None  # of SetValidTime
     conflict: bytes | None = None  # of SetConflictWorkspace
+    difference: list | None = None  # of SetDiffVersions, two workspaces each with its savepoint
     resolve: bytes | None = None  # the workspace whose resolve it has open
     decisions: list = field(default_factory=list)  # of that resolve
     locking: bytes | None = None  # the mode in which it locks what it changes
@@ -21,6 +23,7 @@ class Session:
 @dataclass
 class Savepoint:
     place: int
+    moment: Instant
     content: dict
     own: list
     log_length: int
@@ -32,6 +35,7 @@ class Savepoint:
 class Workspace:
     number: int
     parent: int | None
+    born: Instant
     birth_place: int  # in the parent
     log_from: int  # how long the parent's log was when 'base' was taken of it
     first: dict  # what it was born with

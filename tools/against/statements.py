@@ -1,6 +1,6 @@
 """Random lines that are no calls."""
 from choices import (
-    COLUMNS, CONFLICTS, ENDS, HISTORIES, KINDS, LABELS, LATER, LOCKS, LONG_NAME, LONGEST_NAME, PERIODS, TABLES,
+    COLUMNS, CONFLICTS, DIFFERENCES, ENDS, HISTORIES, KINDS, LABELS, LOCKS, LONG_NAME, LONGEST_NAME, PERIODS, TABLES,
 )
 from lists import rows_by_key
 from trees import Column
@@ -95,7 +95,7 @@ class Statements:
     def one_row(self, name, session):
         """A key, the period of one of its rows and those of all its rows, most likely of several and a row that the session is shown."""
         table, session = self.reference.tables.get(name), self.reference.sessions.get(session)
-        rows = rows_by_key(self.reference.content(session), name) if session and table and table.has_periods else None
+        rows = rows_by_key(self.reference.content(session, table), name) if session and table and table.has_periods else None
         if not rows:
             return None, ALWAYS, [ALWAYS]
         window = self.reference.window(session, table) if self.chance(0.8) else ALWAYS
@@ -185,10 +185,6 @@ class Statements:
     def disconnect(self):
         return f"DISCONNECT {self.one(['B', 'C', 'D', 'Z'])}"
 
-    def not_built(self):
-        """What the language has, and the program has not yet."""
-        return self.said(self.one(LATER))
-
     def on_periods(self):
         """What is said of periods, also of tables that have none."""
         words = self.one(PERIODS)
@@ -204,11 +200,25 @@ class Statements:
         table = self.reference.tables.get(name)
         has_history = table is not None and table.has_history or self.chance(0.05)
         is_locked = any(lock.table == name for its in self.reference.workspaces.values() for lock in its.locks)
-        lines = self.weighted({"CONFLICTS": 3, "HISTORIES": 3 * has_history, "LOCKS": 4 if is_locked else 0.5})
-        lines = {"CONFLICTS": CONFLICTS, "HISTORIES": HISTORIES, "LOCKS": LOCKS}[lines]
+        comparing = [session for session, its in self.reference.sessions.items() if its.difference]
+        lines = self.weighted({"CONFLICTS": 3, "HISTORIES": 3 * has_history, "LOCKS": 4 if is_locked else 0.5,
+                               "DIFFERENCES": 5 if comparing else 0.3})
+        if lines == "DIFFERENCES" and comparing and not self.is_bad(0.05):
+            return self.different(name, self.one(comparing))
+        lines = {"CONFLICTS": CONFLICTS, "HISTORIES": HISTORIES, "LOCKS": LOCKS, "DIFFERENCES": DIFFERENCES}[lines]
         words = self.one(lines) if self.is_bad() or self.chance(0.3) else self.one(lines[:10])
         likely = {session: 1 + 5 * bool(self.reference.workspaces[its.workspace].own) for session, its in self.reference.sessions.items()}
         return self.said(words.replace("@", name), self.weighted(likely) if likely else None)
+
+    def different(self, name, session):
+        """A query of the differences of a table, most likely of one in which the session's points differ."""
+        points = self.reference.sessions[session].difference
+        is_there = all(workspace in self.reference.workspaces and (point == b"LATEST" or point in self.reference.workspaces[workspace].savepoints)
+                       for workspace, point in points)
+        tables = [other for other, its in self.reference.tables.items() if is_there and its.is_versioned
+                  and list(self.reference.differing(self.reference.sessions[session], its))]
+        words = self.one(DIFFERENCES) if self.is_bad() or self.chance(0.15) else self.one(DIFFERENCES[:10])
+        return self.said(words.replace("@", self.one(tables) if tables and self.chance(0.85) else name), session)
 
     def at(self):
         """The moment that is, a later one, or one just before it."""

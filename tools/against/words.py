@@ -24,7 +24,7 @@ class Words:
             return name
         table = self.reference.tables.get(name)
         has_history = table is not None and table.has_history
-        return name + self.weighted({"_CONF": 4, "_HIST": 6 if has_history else 0.5, "_LOCK": 3, "_DIFF": self.noise, "_CONF_HIST": self.noise})
+        return name + self.weighted({"_CONF": 4, "_HIST": 6 if has_history else 0.5, "_LOCK": 3, "_DIFF": 4, "_CONF_HIST": self.noise})
 
     def columns_of(self, name):
         table = self.reference.tables.get(name)

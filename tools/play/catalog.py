@@ -9,6 +9,7 @@ COUNTERS, TABLE = 1, 2
 NUMBER, TEXT = b"\1", b"\2"
 OF_HISTORY = ["WM_WORKSPACE", "WM_USERNAME", "WM_OPTYPE", "WM_CREATETIME", "WM_RETIRETIME"]
 OF_LOCKS = ["WM_WORKSPACE", "WM_LOCKMODE", "WM_USERNAME"]
+OF_DIFFERENCES = ["WM_DIFFVER", "WM_CODE"]
 
 
 def spelled(key):
@@ -44,6 +45,7 @@ class Catalog:
                 keys, period = [table.columns[place].name for place in table.key_columns], ["WM_VALID"] * table.is_valid
                 columns = [column.name for column in table.columns] + period
                 self.known |= {table.name: columns, f"{table.name}_CONF": ["WM_WORKSPACE", *columns, "WM_DELETED"],
+                               f"{table.name}_DIFF": columns + OF_DIFFERENCES,
                                f"{table.name}_HIST": columns + OF_HISTORY, f"{table.name}_LOCK": keys + period + OF_LOCKS}
         return self.known
 

@@ -1,4 +1,4 @@
-"""What an answer does not say and a newcomer wants to know: four traps that are no refusals, or that a refusal does not stop."""
+"""What an answer does not say and a newcomer wants to know: five traps that are no refusals, or that a refusal does not stop."""
 import re
 
 from lines import is_refusal, readable
@@ -7,6 +7,7 @@ ALL_TIME = "this row holds for all of time, from the year 1 on: SetValidTime or 
 NOT_SHOWN = "no such row holds in the session's period: SetValidTime sets the time of which you speak"
 STANDS = "{} stands where it stood, and what it does next is done there"
 OF_LIVE = "LIVE has no conflicts: SetConflictWorkspace names the workspace that has them"
+NOTHING_COMPARED = "{} compares nothing yet: SetDiffVersions names two workspaces"
 SAID = re.compile(r"\s*([A-Za-z][\w$#]*)\s*:\s*(.*)", re.DOTALL)
 CONNECT = re.compile(r"\s*CONNECT\s+([A-Za-z][\w$#]*)\s", re.IGNORECASE)
 CALL = re.compile(r"EXEC(?:UTE)?\s+DBMS_WM\s*\.\s*(\w+)\s*(?:\(\s*(.*?)\s*\))?\s*;?\s*", re.IGNORECASE | re.DOTALL)
@@ -16,6 +17,7 @@ ALL_OF_TIME = re.compile(r"(?:validFrom\s*=>\s*)?(?:DATE|TIMESTAMP)\s*'0001-01-0
 CHANGE = re.compile(r"(?:UPDATE|DELETE(?:\s+FROM)?)\s+([A-Za-z][\w$#]*)", re.IGNORECASE)
 INSERT = re.compile(r"INSERT\s+INTO\s+([A-Za-z][\w$#]*)", re.IGNORECASE)
 CONFLICTS = re.compile(r"SELECT\b.*\bFROM\b.*_CONF\b", re.IGNORECASE | re.DOTALL)
+DIFFERENCES = re.compile(r"SELECT\b.*\bFROM\b.*_DIFF\b", re.IGNORECASE | re.DOTALL)
 TEXT = re.compile(r"'(?:[^']|'')*'")
 # A condition that says of a column what it is; and of others what it will, but for OR.
 EQUALS = re.compile(r".*?\bWHERE\s+(?:[A-Za-z][\w$#]*\s*\.\s*)?([A-Za-z][\w$#]*)\s*=\s*(-?\d{1,18}|'(?:[^']|'')+')\s*(?:AND\b.*|;\s*)?",
@@ -23,11 +25,11 @@ EQUALS = re.compile(r".*?\bWHERE\s+(?:[A-Za-z][\w$#]*\s*\.\s*)?([A-Za-z][\w$#]*)
 
 
 class Hints:
-    """Follows the lines of a run, and knows which session has set a period, where each stands and at whose conflicts it looks."""
+    """Follows the lines of a run, and knows which session has set a period, where each stands, at whose conflicts it looks, and which compare."""
 
     def __init__(self, catalog):
         self.catalog = catalog
-        self.periods, self.standing, self.looking = {}, {}, {}  # texts as the lines have them
+        self.periods, self.standing, self.looking, self.comparing = {}, {}, {}, {}  # texts as the lines have them
 
     def hint(self, line, answer):
         """What is to be said behind the answer of a line, or None."""
@@ -45,15 +47,17 @@ class Hints:
         """A session begins without a period."""
         found = CONNECT.match(line)
         if found:
-            for held in (self.periods, self.standing, self.looking):
+            for held in (self.periods, self.standing, self.looking, self.comparing):
                 held.pop(found[1].upper(), None)
 
     def called(self, session, procedure, arguments, is_refused):
-        if procedure in ("GOTOWORKSPACE", "GOTOSAVEPOINT") and is_refused:
+        if procedure in ("GOTOWORKSPACE", "GOTOSAVEPOINT", "GOTODATE") and is_refused:
             return STANDS.format(session)
         name = TEXT.search(arguments or "")
         if procedure in ("GOTOWORKSPACE", "SETCONFLICTWORKSPACE") and name and not is_refused:
             (self.standing if procedure == "GOTOWORKSPACE" else self.looking)[session] = name[0]
+        if procedure == "SETDIFFVERSIONS" and not is_refused:
+            self.comparing[session] = arguments
         if procedure == "SETVALIDTIME" and not is_refused:
             self.periods[session] = arguments
         return None
@@ -65,6 +69,8 @@ class Hints:
             return NOT_SHOWN if self.may_be_there(change[1].upper(), statement) else None
         if answer == [b"ROWS 0"] and CONFLICTS.match(TEXT.sub("", statement)) and self.looks_at(session) == "'LIVE'":
             return OF_LIVE
+        if answer == [b"ROWS 0"] and DIFFERENCES.match(TEXT.sub("", statement)) and session not in self.comparing:
+            return NOTHING_COMPARED.format(session)
         names_period = re.search(r"\bWM_PERIOD\b", TEXT.sub("", statement), re.IGNORECASE)
         if insert and answer == [b"DONE 1"] and not period and not names_period and self.has_valid_time(insert[1]):
             return ALL_TIME

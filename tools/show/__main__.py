@@ -1,5 +1,5 @@
 #!/usr/bin/env python3
-"""python3 tools/show STORE [--log N] [--html FILE [--keys N]]
+"""python3 tools/show STORE [--log N] [--diff POINT POINT] [--html FILE [--keys N]]
 
 Shows what a store holds: its tables, the tree of its workspaces and savepoints, what is frozen and what is locked,
 how many changes it still takes, who changed what and when in tables with history (what a merge brings, under who
@@ -7,11 +7,12 @@ merged), and what a merge would find in conflict. The file is read as docs/FORMA
 needed.
 
     --log N      so many of the last changes (20)
+    --diff P Q   in what two points differ, side by side: each a workspace, or a savepoint as 'workspace, savepoint'
     --html FILE  writes a page with pictures instead, for a browser; over what is there, unless that is a store
     --keys N     so many keys of a table are drawn on the page, the last changed ones (40)
     --version    says of which day this tool is
 
-The status is 0, or 1 where the file is no store or is damaged, or no page can be written. Damage is named as the
+The status is 0, or 1 where the file is no store or is damaged, a point is not there, or no page can be written. Damage is named as the
 program names it; not all that its `check` tests is looked at, so a damaged store may be shown.
 """
 import argparse
@@ -25,7 +26,7 @@ from called import named, see_to_python, tell_of_itself
 
 see_to_python()
 
-from shown import shown
+from shown import NoPoint, shown
 from storefile.pages import MADE, Damaged, NotAStore
 from storefile.store import opened
 
@@ -46,6 +47,7 @@ def asked():
     parser.add_argument("store", type=Path)
     parser.add_argument("--log", type=count, default=20)
     parser.add_argument("--keys", type=count, default=40)
+    parser.add_argument("--diff", nargs=2)
     parser.add_argument("--html", type=Path)
     return parser.parse_args()
 
@@ -72,7 +74,9 @@ def write_page(path, page):
 def main():
     words = asked()
     try:
-        text, page = shown(words.store, opened(words.store), words.log, words.keys)
+        text, page = shown(words.store, opened(words.store), words.log, words.keys, words.diff)
+    except NoPoint as lost:
+        return f"show: there is no workspace or savepoint {lost}"
     except NotAStore:
         return f"show: {words.store} is no store"
     except Damaged as damage:

@@ -1,4 +1,4 @@
-"""What a merge would find in conflict, side by side: as it was, in the parent, and in the workspace."""
+"""What a merge would find in conflict, side by side: as it was, in the parent, and in the workspace. And so in what two points differ."""
 from html import escape
 
 from colours import colour_of
@@ -24,14 +24,18 @@ def side(name, colour, row, base, table):
     return f'<div class="side">{head}<dl>{"".join(cells)}</dl></div>'
 
 
-def conflict_card(store, space, found):
-    parent = store.spaces[space.parent]
+def three_sides(found, base, first, second):
+    """The card of a key: of each side its name and its colour, and its row."""
     period = f' <span class="when">{found.period}</span>' if found.table.is_valid else ""
-    sides = [side("before", "var(--soft)", found.base, found.base, found.table),
-             side(parent.name, colour_of(parent), found.parent, found.base, found.table),
-             side(space.name, colour_of(space), found.child, found.base, found.table)]
+    rows = zip((base, first, second), (found.base, found.parent, found.child))
+    sides = [side(name, colour, row, found.base, found.table) for (name, colour), row in rows]
     heading = f"<h3>{escape(found.table.name)} {escape(printed(found.key))}{period}</h3>"
     return f'<div class="card conflict">{heading}<div class="sides">{"".join(sides)}</div></div>'
+
+
+def conflict_card(store, space, found):
+    parent = store.spaces[space.parent]
+    return three_sides(found, ("before", "var(--soft)"), (parent.name, colour_of(parent)), (space.name, colour_of(space)))
 
 
 def settled_card(store):
@@ -58,3 +62,18 @@ def conflicts_section(store, found):
     if len(found) > MOST:
         told += f" The first {MOST} of {len(found)} are here."
     return [told, *(conflict_card(store, space, conflict) for space, conflict in found[:MOST]), *settled]
+
+
+def differences_section(store, points):
+    """What the section says, and its cards."""
+    first, second = points
+    found, common = store.differences(first, second), store.common(first, second)
+    if not found:
+        return [f"None: {escape(first.name)} and {escape(second.name)} have the same rows."]
+    told = (f"What {escape(first.name)} and {escape(second.name)} have in common, which is {escape(store.spaces[common.space].name)} behind "
+            f"{common.log_length:,} changes, and beside it each of them. Marked is what is not as it was; a row that was written anew counts as "
+            "another, also where its values are the same.")
+    if len(found) > MOST:
+        told += f" The first {MOST} of {len(found)} are here."
+    sides = [("in common", "var(--soft)"), *((point.name, colour_of(store.spaces[point.space])) for point in points)]
+    return [told, *(three_sides(difference, *sides) for difference in found[:MOST])]

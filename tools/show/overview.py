@@ -146,6 +146,20 @@ def conflicts(store):
     return lines if len(lines) > 2 else lines + ["  nothing"]
 
 
+def differences(store, points):
+    """In what two points differ, where two are asked for."""
+    if not points:
+        return []
+    first, second = points
+    lines = ["", f"What differs between {printed(first.name)} and {printed(second.name)}"]
+    for found in store.differences(first, second):
+        period = f" {found.period}" if found.table.is_valid else ""
+        lines.append(f"  {found.table.name} {printed(found.key)}{period}")
+        sides = [side_line("in common", found.base), side_line(first.name, found.parent), side_line(second.name, found.child)]
+        lines += ["    " + line for line in fitted(sides)]
+    return lines if len(lines) > 2 else lines + ["  nothing"]
+
+
 def settled_told(store, space):
     """The keys whose conflict was settled, each with its periods where the table has valid time."""
     return [f"{table.name} {printed(key)}" + "".join(f" {period}" for period in periods if table.is_valid)
@@ -171,5 +185,6 @@ def locked(store):
     return ["", "What is locked", *told] if told else []
 
 
-def overview(path, store, most):
-    return [*head(path, store), *tables(store), *workspaces(store), *locked(store), *log(store, most), *conflicts(store), *settled(store)]
+def overview(path, store, most, points=()):
+    return [*head(path, store), *tables(store), *workspaces(store), *locked(store), *log(store, most), *conflicts(store), *settled(store),
+            *differences(store, points)]

@@ -3,8 +3,9 @@ from html import escape
 
 from called import named
 from colours import colour_of
-from conflicts import conflicts_section
+from conflicts import conflicts_section, differences_section
 from graph import Graph
+from history import history_section
 from keys import keys_section
 from look import shell
 from overview import TYPES, WORDS, changed_keys, counted, in_time, last_change, locked_told, state_of
@@ -12,7 +13,8 @@ from storefile.store import LIVE
 from storefile.values import printed
 
 MOST_ENTRIES, MOST_LOCKS = 500, 200
-SECTIONS = {"workspaces": "Workspaces", "tables": "Tables", "conflicts": "Conflicts", "keys": "Rows", "log": "Who changed what"}
+SECTIONS = {"workspaces": "Workspaces", "tables": "Tables", "conflicts": "Conflicts", "differences": "Differences", "keys": "Rows",
+            "history": "Rows over the days", "log": "Who changed what"}
 
 
 def section(name, text, *inside):
@@ -42,12 +44,12 @@ def facts(store, conflicts):
             + fact(conflicts, told, "alarm" if conflicts else "good") + "</div>")
 
 
-def header(name, store, conflicts):
+def header(name, store, conflicts, sections):
     moment = last_change(store)
     told = "Nothing has been changed yet" if moment is None else f"Last change {moment} UTC"
     if store.pages.is_repaired:
         told += "; the last change is still in the journal, and the next run puts it in place"
-    links = "".join(f'<a href="#{place}">{text}</a>' for place, text in SECTIONS.items())
+    links = "".join(f'<a href="#{place}">{text}</a>' for place, text in SECTIONS.items() if place in sections)
     size = f"{counted(store.pages.count, 'page')} of 4,096 bytes"
     return f"<header><h1>{escape(name)}</h1><p>{told}. {size}.</p>{facts(store, conflicts)}<nav>{links}</nav></header>"
 
@@ -120,9 +122,11 @@ def log_section(store):
     return section("log", told, *inside)
 
 
-def page(name, store, most_keys):
+def page(name, store, most_keys, points=()):
     found = [(space, conflict) for space in store.spaces.values() for conflict in store.conflicts(space)]
-    parts = [header(name, store, len(found)), workspaces_section(store), tables_section(store),
-             section("conflicts", *conflicts_section(store, found)),
-             section("keys", *keys_section(store, found, most_keys)), log_section(store)]
-    return shell(escape(name), "\n".join(parts))
+    parts = {"workspaces": workspaces_section(store), "tables": tables_section(store),
+             "conflicts": section("conflicts", *conflicts_section(store, found)),
+             **({"differences": section("differences", *differences_section(store, points))} if points else {}),
+             "keys": section("keys", *keys_section(store, found, most_keys)),
+             "history": section("history", *history_section(store, most_keys)), "log": log_section(store)}
+    return shell(escape(name), "\n".join([header(name, store, len(found), parts), *parts.values()]))

@@ -45,6 +45,11 @@ def hatched(axis, conflict, level):
                    height=9, class_="hatched", rx=3)
 
 
+def days_below(axis, bottom):
+    return [label(axis.place(at), bottom + 16, text, class_="day", text_anchor="middle")
+            for at, text in axis.ticks() if axis.place(at) < WIDTH - 40]
+
+
 def timeline(store, table, key, rows_by_space, conflicts):
     """The picture. Where a workspace and its parent are in conflict, the workspace's lane is hatched."""
     shown = lanes(store, table, key, rows_by_space)
@@ -61,6 +66,4 @@ def timeline(store, table, key, rows_by_space, conflicts):
         parts += [hatched(axis, conflict, level) for space, conflict in conflicts if space.name in names]
         if not held:
             parts.append(label(NAMES + 8, level + BAR / 2 + 4, "no row", class_="small"))
-    parts += [label(axis.place(at), bottom + 16, text, class_="day", text_anchor="middle")
-              for at, text in axis.ticks() if axis.place(at) < WIDTH - 40]
-    return picture(WIDTH, bottom + 26, *parts, class_="timeline")
+    return picture(WIDTH, bottom + 26, *parts, *days_below(axis, bottom), class_="timeline")

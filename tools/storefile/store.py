@@ -5,7 +5,7 @@ from typing import NamedTuple
 
 from .pages import Damaged, Pages
 from .records import Counters, Hist, Lock, Mark, Piece, Row, Savepoint, Space, Table, Touch, Turn, Version, records_of
-from .values import in_order
+from .values import Period, in_order
 
 LIVE, NO_VERSION = 0, 0
 
@@ -19,13 +19,23 @@ class Shown(NamedTuple):
 
 
 class Conflict(NamedTuple):
-    """A longest period of a key that a workspace and its parent both changed, and on which each side holds one row or none."""
+    """A longest period of a key that a workspace and its parent both changed, or on which two points differ, and on which each of the three
+    sides holds one row or none."""
     table: Table
     key: object
     period: object
     base: object
     parent: object
     child: object
+
+
+class Point(NamedTuple):
+    """What is newest in a workspace, a savepoint of it, or what of it was taken from below: by the version that holds it."""
+    name: str
+    space: int
+    log_length: int
+    rebases: int
+    version: int
 
 
 class Store:
@@ -95,6 +105,45 @@ class Store:
         """The versions that hold what the workspace changed since it was born or last took over its parent."""
         path = self.path(self.newest[space.number])
         return path[:path.index(space.base_version)] if space.base_version in path else path
+
+    # Points, and what two of them have in common
+
+    def point(self, name):
+        """The point of a workspace, or of 'workspace, savepoint', or None. LATEST is what is newest."""
+        for space in self.spaces.values():
+            newest = Point(f"{space.name}, LATEST", space.number, space.log_length, space.rebases, self.newest[space.number])
+            if name in (space.name, newest.name):
+                return newest
+            for point in self.savepoints_of(space):
+                if name == f"{space.name}, {point.name}":
+                    return Point(name, space.number, point.log_length, point.rebases, point.version)
+        return None
+
+    def climbed(self, point):
+        """A point, and those that lie above it: each time what its workspace took of the parent, when it was born or last rebased."""
+        found = [point]
+        while found[-1].space != LIVE:
+            last, parent = found[-1], self.spaces[found[-1].space].parent
+            turn = next(turn for turn in self.turns if (turn.space, turn.rebase) == (last.space, last.rebases))
+            version = next(version for version in self.path(last.version) if self.versions[version].space == parent)
+            found.append(Point(self.spaces[parent].name, parent, turn.log_length, turn.rebases, version))
+        return found
+
+    def common(self, first, second):
+        """The earlier of the two points that lie above these in the nearest workspace that is above both."""
+        below = {point.space: point for point in self.climbed(second)}
+        mine = next(point for point in self.climbed(first) if point.space in below)
+        return min(mine, below[mine.space], key=lambda point: (point.log_length, point.rebases))
+
+    def differences(self, first, second):
+        """The longest periods on which one of two points differs from what they have in common, by table and key."""
+        versions = [point.version for point in (self.common(first, second), first, second)]
+        found = []
+        for table in self.tables.values():
+            keys = {row.key for version in versions for row in self.rows_seen(version, table)}
+            for key in sorted(keys, key=in_order):
+                found += self.stretches(table, key, versions, [], lambda begin, till, held: len({row and row.stamp for row in held}) > 1)
+        return found
 
     # What a version holds
 
@@ -212,21 +261,23 @@ class Store:
                 part = cells.period.overlap(period)
                 shared[cells.table, cells.key] += [part] if part else []
         found = []
+        versions = [space.base_version, self.newest[space.parent], self.newest[space.number]]
         for table, key in sorted((cell for cell in shared if shared[cell]), key=lambda cell: (cell[0], in_order(cell[1]))):
-            found += self.stretches(space, self.tables[table], key, shared[table, key])
+            periods = shared[table, key]
+            found += self.stretches(self.tables[table], key, versions, periods, lambda begin, till, held: any(
+                period.begin <= begin and till <= period.till for period in periods))
         return found
 
-    def stretches(self, space, table, key, periods):
-        """The conflicts of one key: its shared periods, cut where one of the three sides changes, and joined where none does."""
-        points = [space.base_version, self.newest[space.parent], self.newest[space.number]]
-        sides = [self.rows_seen(version, table, key) for version in points]
+    def stretches(self, table, key, versions, periods, is_wanted):
+        """What of one key is wanted: cut at the ends of periods and where one of three sides changes, and joined where none does."""
+        sides = [self.rows_seen(version, table, key) for version in versions]
         ends = {end for period in periods for end in period} | {end for rows in sides for row in rows for end in row.period}
         found = []
         for begin, till in zip(sorted(ends), sorted(ends)[1:]):
-            if not any(period.begin <= begin and till <= period.till for period in periods):
-                continue
             held = [next((row for row in rows if row.period.begin <= begin < row.period.till), None) for rows in sides]
-            stretch = Conflict(table, key, periods[0]._replace(begin=begin, till=till), *held)
+            if not is_wanted(begin, till, held):
+                continue
+            stretch = Conflict(table, key, Period(begin, till), *held)
             last = found[-1] if found else None
             if last and last.period.till == begin and stamps(last) == stamps(stretch):
                 found[-1] = last._replace(period=last.period._replace(till=till))

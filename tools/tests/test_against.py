@@ -12,7 +12,7 @@ sys.path.insert(0, FOLDER)
 from lists import copied, joined, put
 from reference import Reference, ended
 from scripts import Writer
-from values import TIMESTAMP_FORMS, instant
+from values import END, TIMESTAMP_FORMS, instant
 sys.path.remove(FOLDER)
 
 from play_cases import fits, read_case
@@ -123,8 +123,29 @@ class Reading(unittest.TestCase):
         self.look_at_resolves(reference)
         self.look_at_freezes(reference)
         self.look_at_locks(reference)
+        self.look_at_points(reference, by_number)
         for session in reference.sessions.values():
-            self.assertIn(session.savepoint, [None, *reference.workspaces[session.workspace].savepoints])
+            workspace = reference.workspaces[session.workspace]
+            self.assertIn(session.savepoint, [None, *workspace.savepoints])
+            self.assertIn(None, (session.savepoint, session.date))
+            if session.date is not None:
+                self.assertGreaterEqual(session.date, workspace.born)
+
+    def look_at_points(self, reference, by_number):
+        """What a workspace has in common with its parent is what it last saw of it. At the end of time all that is newest counts."""
+        for name, workspace in reference.workspaces.items():
+            for table in reference.tables.values():
+                dated = alike(reference.dated(workspace, table, END)) if table.has_history else {}
+                for key, rows in dated.items():
+                    if key[0] == table.name:
+                        self.assertEqual(rows, alike(workspace.content).get(key))
+            if workspace.parent is not None:
+                points = [reference.point(one, b"LATEST") for one in (name, reference.above(workspace))]
+                wanted = (workspace.parent, *workspace.turns[-1])
+                for first, second in (points, points[::-1]):
+                    common = reference.common(first, second)
+                    self.assertEqual((common.workspace, common.log_length, common.rebases), wanted)
+                self.assertEqual(alike(reference.content_at(common)), alike(workspace.base))
 
     def look_at_marks(self, workspace, parent):
         """Marks lie on what is the workspace's own, and speak of the parent's log as it is. Those of a savepoint are still there, or later ones."""

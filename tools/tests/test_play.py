@@ -74,13 +74,17 @@ class Lines(Played):
         script = TABLE.replace(b"'T'", b"'T', 'VIEW_WO_OVERWRITE', FALSE, TRUE") + b"A: INSERT INTO T VALUES (1, 'a')\n"
         script += (b"A: EXECUTE DBMS_WM.CreateWorkspace('W')\nA: DELETE FROM T\nA: EXECUTE DBMS_WM.GotoWorkspace('W')\n"
                    b"A: UPDATE T SET NOTE = 'b'\nA: SELECT * FROM t_conf\nA: SELECT * FROM T_HIST\n"
-                   b"A: EXECUTE DBMS_WM.LockRows('W', 'T')\nA: SELECT * FROM T_LOCK\n")
+                   b"A: EXECUTE DBMS_WM.LockRows('W', 'T')\nA: SELECT * FROM T_LOCK\n"
+                   b"A: EXECUTE DBMS_WM.SetDiffVersions('LIVE', 'W')\nA: SELECT * FROM T_DIFF\n")
         said = self.lines(script, "--quiet")
         wanted = ["     WM_WORKSPACE | ID | NOTE | WM_VALID                    | WM_DELETED", "     LIVE         |  1 | NULL | [2024-06-01, UNTIL_CHANGED) | YES",
                   "     ID | NOTE | WM_VALID                    | WM_WORKSPACE | WM_USERNAME | WM_OPTYPE | WM_CREATETIME | WM_RETIRETIME",
                   "      1 | b    | [2024-06-01, UNTIL_CHANGED) | W            | ANN         | U         | 2024-06-01    |          NULL",
                   "     ID | WM_VALID                    | WM_WORKSPACE | WM_LOCKMODE | WM_USERNAME",
-                  "      1 | [2024-06-01, UNTIL_CHANGED) | W            | E           | ANN"]
+                  "      1 | [2024-06-01, UNTIL_CHANGED) | W            | E           | ANN",
+                  "     ID | NOTE | WM_VALID                    | WM_DIFFVER   | WM_CODE",
+                  "      1 | NULL | [2024-06-01, UNTIL_CHANGED) | LIVE, LATEST | D",
+                  "      1 | b    | [2024-06-01, UNTIL_CHANGED) | W, LATEST    | U"]
         self.assertEqual([line for line in said if line in wanted], wanted)
 
     def test_sheet(self):
@@ -133,6 +137,13 @@ class Hinted(Played):
                           b"A: EXECUTE DBMS_WM.SetConflictWorkspace('W')\nA: SELECT * FROM T_CONF\nCONNECT B BEN\nB: SELECT ID FROM T_CONF C WHERE 1 = 1\n"
                           b"B: EXECUTE DBMS_WM.GotoWorkspace('W')\nB: SELECT * FROM T_CONF\nB: SELECT COUNT(*) FROM T_CONF\n")
         self.assertEqual([text.split(":")[0] for text in self.hints(script)], ["LIVE has no conflicts"] * 2)
+
+    def test_nothing_compared(self):
+        made(self.store)
+        script = TABLE + (b"A: EXECUTE DBMS_WM.CreateWorkspace('W')\nA: SELECT * FROM T_DIFF\nA: SELECT 'T_DIFF' FROM T\n"
+                          b"A: EXECUTE DBMS_WM.SetDiffVersions('LIVE', 'Q')\nA: SELECT ID FROM t_diff D\n"
+                          b"A: EXECUTE DBMS_WM.SetDiffVersions('LIVE', 'W')\nA: SELECT * FROM T_DIFF\n")
+        self.assertEqual([text.split(":")[0] for text in self.hints(script)], ["A compares nothing yet"] * 2)
 
     def test_tables_without_valid_time_have_none(self):
         made(self.store)

@@ -24,7 +24,7 @@ def text(name):
 
 def questions(found):
     """Lines that ask for all rows of each workspace and of each savepoint, and for what its views have; and what the file says to each."""
-    lines = [("CONNECT Z ZOE", ["OK"]), ("Z: EXECUTE DBMS_WM.SetValidTime(DATE '0001-01-01')", ["OK"]), *locks(found)]
+    lines = [("CONNECT Z ZOE", ["OK"]), ("Z: EXECUTE DBMS_WM.SetValidTime(DATE '0001-01-01')", ["OK"]), *locks(found), *differences(found)]
     for space in found.spaces.values():
         is_closed = FREEZES[space.freeze] == "NO_ACCESS"
         lines.append((f"Z: EXECUTE DBMS_WM.GotoWorkspace({text(space.name)})", [barred(space) if is_closed else "OK"]))
@@ -64,6 +64,27 @@ def views(found, space):
         yield f"Z: SELECT * FROM {table.name}_CONF", [*rows, f"ROWS {len(rows)}"]
         rows = list(changes(found, space, table))
         yield f"Z: SELECT * FROM {table.name}_HIST", [*rows, f"ROWS {len(rows)}"] if table.has_history else [f"WM-018 no history {table.name}"]
+
+
+def differences(found):
+    """Lines that compare what is newest in workspaces, and savepoints of them, each with the one before; and what the file says to each."""
+    points = [found.point(space.name) for space in found.spaces.values()]
+    points += [found.point(f"{found.spaces[point.space].name}, {point.name}") for point in found.savepoints]
+    for first, second in zip(points, points[1:]):
+        names = ", ".join(text(part) for point in (first, second) for part in point.name.split(", "))
+        yield f"Z: EXECUTE DBMS_WM.SetDiffVersions({names})", ["OK"]
+        told = found.differences(first, second)
+        for table in (table for table in found.tables.values() if table.is_versioned):
+            rows = [row for one in told if one.table is table for row in compared(one, first, second)]
+            yield f"Z: SELECT * FROM {table.name}_DIFF", [*rows, f"ROWS {len(rows)}"]
+
+
+def compared(one, first, second):
+    """The three rows of a difference."""
+    for name, row in [("DiffBase", one.base), (first.name, one.parent), (second.name, one.child)]:
+        code = {(True, True): "NC" if row and one.base and row.stamp == one.base.stamp else "U", (True, False): "D", (False, True): "I",
+                (False, False): "NE"}[one.base is not None, row is not None]
+        yield answered(one.table, one.key, one.period, row and row.values, [], [name, code])
 
 
 def sides(found, space, conflict):
@@ -274,6 +295,29 @@ class Contents(WithFolder):
         run(self.store, "2024-01-01", b"CONNECT A ANN\nA: EXECUTE DBMS_WM.UnlockRows('LIVE', 'T')\nA: EXECUTE DBMS_WM.UnlockRows('W', 'U')\n")
         said, page = shown(self.store, opened(self.store), 20, 40)
         self.assertEqual(("What is locked" in said, "<h3>Locked</h3>" in page), (False, False))
+
+    def test_differences_and_days(self):
+        """In what two points differ is told where they are asked for; a row is drawn from the day on which it was written."""
+        lines = ["CREATE TABLE T (ID NUMBER PRIMARY KEY, X NUMBER)", "EXECUTE DBMS_WM.EnableVersioning('T', 'VIEW_WO_OVERWRITE')",
+                 "INSERT INTO T VALUES (1, 10)", "EXECUTE DBMS_WM.CreateWorkspace('W')", "EXECUTE DBMS_WM.CreateSavepoint('LIVE', 'S')"]
+        script = "CONNECT A ANN\n" + "".join(f"A: {line}\n" for line in lines)
+        self.assertNotIn(b"WM-", run(made(self.store), "2024-01-01", script.encode()).stdout)
+        script = "CONNECT A ANN\nA: UPDATE T SET X = 11\nA: EXECUTE DBMS_WM.GotoWorkspace('W')\nA: DELETE FROM T\n"
+        self.assertNotIn(b"WM-", run(self.store, "2024-02-01", script.encode()).stdout)
+        found = self.compare(self.store)
+        said, page = shown(self.store, found, 20, 40, ["LIVE", "W"])
+        self.assertTrue(said.endswith("\nWhat differs between 'LIVE, LATEST' and 'W, LATEST'\n  T 1\n      in common     1|10\n"
+                                      "      LIVE, LATEST  1|11\n      W, LATEST     no row"))
+        self.assertIn("<h2>Differences</h2>", page)
+        self.assertIn("10\n[2024-01-01 00:00:00, 2024-02-01 00:00:00)</title>", page)
+        self.assertIn("11\n[2024-02-01 00:00:00, UNTIL_CHANGED)</title>", page)
+        said, page = shown(self.store, found, 20, 40, ["LIVE, S", "W, LATEST"])
+        self.assertTrue(said.endswith("\n      LIVE, S    1|10\n      W, LATEST  no row"))
+        said, page = shown(self.store, found, 20, 40, ["W", "W"])
+        self.assertTrue(said.endswith("'W, LATEST' and 'W, LATEST'\n  nothing"))
+        self.assertNotIn("<h2>Differences</h2>", shown(self.store, found, 20, 40)[1])
+        done = tool("show", self.store, "--diff", "LIVE", "Q")
+        self.assertEqual((done.returncode, done.stderr), (1, "show: there is no workspace or savepoint Q\n"))
 
     def histories(self, found):
         """Each entry of a log has a stamp that was given, and a position in it: of a table with history each is kept, and of
