@@ -1,6 +1,6 @@
 # wm, a verified store of version-enabled tables.
 #
-#   make try     plays the examples without a proof, in a minute and a half, for a first look, and leaves build/wm-unproved
+#   make try     plays the examples without a proof, in three minutes, for a first look, and leaves build/wm-unproved
 #   make demo    builds the proved program, makes a store with it and plays the examples, one after the other
 #   make test    the merge gate: every proof, edit, test and program, and then the cases
 #   make wm      the program alone, at build/wm

@@ -1,7 +1,7 @@
 #!/usr/bin/env python3
 """python3 tools/first_look.py [RT]
 
-Plays the examples through the program as 'rt try' compiles it, in a minute and a half and without any proof, and shows
+Plays the examples through the program as 'rt try' compiles it, in three minutes and without any proof, and shows
 each line with its answer. What it makes is below build/try: the store, and a page with pictures of it; and the program
 stays at build/wm-unproved, to follow docs/TUTORIAL.md with.
 """
@@ -138,7 +138,7 @@ def last_words(is_kept):
 
 def main():
     prepare()
-    print("The program is compiled, and not proved; that takes a minute and a half, and longer beside other work.", flush=True)
+    print("The program is compiled, and not proved; that takes three minutes, and longer beside other work.", flush=True)
     output = tried([*(sys.argv[1:] or ["rt"]), "try", "--cases", str(CASES)])
     found = answers(output)
     if found.get("0-init") != [b"OK"]:
