@@ -4,8 +4,6 @@ use Rattle.std.proofs.lemmas.List.{length-map}
 use Rattle.std.proofs.lemmas.Option.{same_Some}
 use Rattle.std.proofs.lemmas.Bool.{true≢false}
 use Rattle.std.specs.Option.{option_copied}
-use Rattle.std.specs.declared.alloc.Global.{Global}
-use Rattle.std.specs.declared.vec.Vec.{Vec}
 use Rattle.wm_graph.specs.Parts.{Parts, parts_of, space_of}
 use Rattle.wm_graph.specs.Rules.{keep_rules}
 use Rattle.wm_spec.specs.Lists.{Entry}
@@ -115,9 +113,9 @@ pub counted_so : (entries : List NewEntry) (count : ℕ) → count ≡ length en
 counted_so entries count is = is ∙ sym (length-map entries entry_of)
 
 -- entries come into the newest version
-pub drafts_here : (rs : List Stored) (m work table version id count : ℕ) (entries : Vec NewEntry Global) (a longer : Space) (c counters : Counters) (front : List Change) (dropped : List ℕ) (news : List Record) (changes : List Change)
+pub drafts_here : (rs : List Stored) (m work table version id count : ℕ) (entries : List NewEntry) (a longer : Space) (c counters : Counters) (front : List Change) (dropped : List ℕ) (news : List Record) (changes : List Change)
     → keep_rules (parts_of rs) ≡ true → CanWork (parts_of rs) m work → Appends (parts_of rs) a.number a c table (entries_in entries) → ((i : ℕ) → id ≤ i → record_at rs i ≡ None)
-    → IsLeaf (latest (parts_of rs) a.number) (newest_first (parts_of rs).versions) → IsFree (parts_of rs) (latest (parts_of rs) a.number) → version ≡ latest (parts_of rs) a.number → count ≡ length entries.items
+    → IsLeaf (latest (parts_of rs) a.number) (newest_first (parts_of rs).versions) → IsFree (parts_of rs) (latest (parts_of rs) a.number) → version ≡ latest (parts_of rs) a.number → count ≡ length entries
     → counters ≡ stepped_by c m work count → longer ≡ longer_by count a → front ≡ [] → AreMade rs a version (entries_in entries) dropped news → AreWritten rs front counters longer id dropped news changes
     → DraftsBy work rs m (edits.Append a.number entries ∷ []) changes
 drafts_here rs m work table version id count entries a longer c counters front dropped news changes rules can_work v above leaf free newest many counts longer_is none made w =
@@ -131,15 +129,15 @@ drafts_here rs m work table version id count entries a longer c counters front d
     (subst (λ k. Redrawn rs k a (entries_in entries) dropped made.drawn made.traced) newest made.redrawn))
   where
     number : count ≡ length (entries_in entries)
-    number = counted_so entries.items count many
+    number = counted_so entries count many
 
     batch : Counters → List Change
     batch k = entries_batch (parts_of rs).tables w.counters_id k w.space_id a dropped id (entries_in entries) made.drawn made.traced
 
 -- or into a version more
-pub drafts_above : (rs : List Stored) (m work table id next parent count : ℕ) (entries : Vec NewEntry Global) (a longer : Space) (c counters : Counters) (front : List Change) (dropped : List ℕ) (news : List Record) (changes : List Change)
+pub drafts_above : (rs : List Stored) (m work table id next parent count : ℕ) (entries : List NewEntry) (a longer : Space) (c counters : Counters) (front : List Change) (dropped : List ℕ) (news : List Record) (changes : List Change)
     → keep_rules (parts_of rs) ≡ true → CanWork (parts_of rs) m work → Appends (parts_of rs) a.number a c table (entries_in entries) → ((i : ℕ) → id ≤ i → record_at rs i ≡ None) → (IsSpare (parts_of rs) a.number → ⊥)
-    → next ≡ id + 1 → parent ≡ latest (parts_of rs) a.number → count ≡ length entries.items → counters ≡ stepped_new_by c m work count → longer ≡ longer_by count a
+    → next ≡ id + 1 → parent ≡ latest (parts_of rs) a.number → count ≡ length entries → counters ≡ stepped_new_by c m work count → longer ≡ longer_by count a
     → front ≡ put id (records.Version (record { number = c.next_version; space = a.number; parent = parent })) ∷ [] → AreMade rs a c.next_version (entries_in entries) dropped news
     → AreWritten rs front counters longer next dropped news changes → DraftsBy work rs m (edits.Append a.number entries ∷ []) changes
 drafts_above rs m work table id next parent count entries a longer c counters front dropped news changes rules can_work v above used after newest many counts longer_is first made w =
@@ -153,7 +151,7 @@ drafts_above rs m work table id next parent count entries a longer c counters fr
     (written_places rs front counters c a longer id next dropped news changes v.one v.there (ap (λ (b : Space). b.number) longer_is) above w) used made.redrawn)
   where
     number : count ≡ length (entries_in entries)
-    number = counted_so entries.items count many
+    number = counted_so entries count many
 
     batch : Counters → ℕ → List Change
     batch k from = entries_batch (parts_of rs).tables w.counters_id k w.space_id a dropped from (entries_in entries) made.drawn made.traced

@@ -1,10 +1,8 @@
 -- What goes and what comes where entries come into a version.
-use Rattle.std.proofs.Common.{◌≡◌, ℕ, ◌+◌, ◌≤◌, ◌-◌, ◌==◌, ◌&&◌, nat_le, Bool, true, List, ◌++◌, append_assoc, length, vec_len, map, Some, refl, sym, ap, subst, ◌∙◌, arith}
+use Rattle.std.proofs.Common.{◌≡◌, ℕ, ◌+◌, ◌≤◌, ◌-◌, ◌==◌, ◌&&◌, nat_le, Bool, true, List, ◌++◌, append_assoc, map, Some, refl, sym, ap, subst, ◌∙◌, arith}
 use Rattle.std.proofs.lemmas.Bool.{and_parts}
 use Rattle.std.specs.List.{list_all}
 use Rattle.std.specs.Str.{bytes_eq}
-use Rattle.std.specs.declared.alloc.Global.{Global}
-use Rattle.std.specs.declared.vec.Vec.{Vec}
 use Rattle.wm_graph.specs.Parts.{Parts, as_piece, parts_of, space_of}
 use Rattle.wm_graph.specs.Rules.{differ, is_placed, is_short, is_space, keep_rules}
 use Rattle.wm_spec.specs.Lists.{Entry}
@@ -26,10 +24,6 @@ use Rattle.wm_append.proofs.TwoLayers.{both_go, both_once, both_there, pieces_se
 use Rattle.wm_append.specs.Appending.{AreMade, hists_if}
 use Rattle.wm_append.specs.Layers.{touch_in}
 use Rattle.wm_append.specs.Redraw.{IsRedrawn}
-
--- how many they are
-pub counted_as : {A : Type 0} (v : Vec A Global) (k : ℕ) → k ≡ vec_len v → k ≡ length v.items
-counted_as v k is = omega (arith, is)
 
 -- the next place of a workspace is behind the first
 pub some_place : (p : Parts) (n : ℕ) (a : Space) → keep_rules p ≡ true → space_of p.spaces n ≡ Some a → nat_le 1 a.next_place ≡ true

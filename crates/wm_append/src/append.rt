@@ -23,7 +23,7 @@ use wm_changes::changes::{drop_all, longer_by, put, put_all};
 use wm_changes::counts::{ids_from, stepped_by, stepped_new_by};
 use wm_image::Image;
 use wm_spec::record::{Boxed, Changes, Counters, Record, Space, Version};
-use wm_state::edit::NewEntry;
+use wm_state::edit::Entries;
 
 /// What is put for counters, for a workspace whose record is there, and for records that come in the place of others,
 /// behind other changes; new ids begin with this one.
@@ -60,12 +60,12 @@ fn append_here(
     moment: u64,
     work: u64,
     space: &Space,
-    entries: Vec<NewEntry>,
+    entries: Entries,
 ) -> Result<Changes, DraftFault>
     requires rules { keep_rules (parts_of image.now) ≡ true }
     requires work { CanWork (parts_of image.now) moment work }
     requires there { space_of (parts_of image.now).spaces space.now.number ≡ Some space.now }
-    requires can { CanAppend (parts_of image.now) space.now.number (map entry_of entries.items) }
+    requires can { CanAppend (parts_of image.now) space.now.number (map entry_of entries) }
     requires leaf { IsLeaf (latest (parts_of image.now) space.now.number) (newest_first (parts_of image.now).versions) }
     requires free { IsFree (parts_of image.now) (latest (parts_of image.now) space.now.number) }
     ensures drafts { IfOk result (DraftsBy work image.now moment (edits.Append space.now.number entries ∷ [])) }
@@ -98,12 +98,12 @@ fn append_above(
     moment: u64,
     work: u64,
     space: &Space,
-    entries: Vec<NewEntry>,
+    entries: Entries,
 ) -> Result<Changes, DraftFault>
     requires rules { keep_rules (parts_of image.now) ≡ true }
     requires work { CanWork (parts_of image.now) moment work }
     requires there { space_of (parts_of image.now).spaces space.now.number ≡ Some space.now }
-    requires can { CanAppend (parts_of image.now) space.now.number (map entry_of entries.items) }
+    requires can { CanAppend (parts_of image.now) space.now.number (map entry_of entries) }
     requires used { IsSpare (parts_of image.now) space.now.number → ⊥ }
     ensures drafts { IfOk result (DraftsBy work image.now moment (edits.Append space.now.number entries ∷ [])) }
     ensures full { IfErr result (λ fault. fault ≡ DraftFault.Ids → HasGreatId image.now) }
@@ -143,11 +143,11 @@ pub fn append(
     moment: u64,
     work: u64,
     space: u32,
-    entries: Vec<NewEntry>,
+    entries: Entries,
 ) -> Result<Changes, DraftFault>
     requires rules { keep_rules (parts_of image.now) ≡ true }
     requires work { CanWork (parts_of image.now) moment work }
-    requires can { CanAppend (parts_of image.now) space (map entry_of entries.items) }
+    requires can { CanAppend (parts_of image.now) space (map entry_of entries) }
     ensures drafts { IfOk result (DraftsBy work image.now moment (edits.Append space entries ∷ [])) }
     ensures full { IfErr result (λ fault. fault ≡ DraftFault.Ids → HasGreatId image.now) }
 {

@@ -7,8 +7,6 @@ use Rattle.std.proofs.lemmas.Bool.{true≢false}
 use Rattle.std.specs.Fmt.{decimal}
 use Rattle.std.specs.Option.{option_and_then, option_map, unwrap_or}
 use Rattle.std.specs.Str.{bytes_eq}
-use Rattle.std.specs.declared.alloc.Global.{Global}
-use Rattle.std.specs.declared.vec.Vec.{Vec}
 use Rattle.wm_graph.specs.Parts.{Parts, parts_of, space_of}
 use Rattle.wm_graph.specs.Rules.{keep_rules, is_short}
 use Rattle.wm_spec.specs.Records.{AreChanges}
@@ -230,7 +228,7 @@ drafts_born rs m work n at name a pt c counters_id space_id id rules can_work ca
   turned = λ left. absurd (true≢false (sym left));
 }
   where
-    no_append : (i : ℕ) (entries : Vec NewEntry Global) → edits.Bear n at name ∷ [] ≡ edits.Append i entries ∷ [] → ⊥
+    no_append : (i : ℕ) (entries : List NewEntry) → edits.Bear n at name ∷ [] ≡ edits.Append i entries ∷ [] → ⊥
     no_append i entries e = cc
 
     place : ℕ

@@ -3,8 +3,6 @@ use Rattle.std.proofs.Common.{◌≡◌, ℕ, ◌+◌, true, false, List, [], �
 use Rattle.std.proofs.lemmas.Option.{same_Some}
 use Rattle.std.proofs.lemmas.Bool.{true≢false}
 use Rattle.std.specs.Option.{option_and_then, option_map, unwrap_or}
-use Rattle.std.specs.declared.alloc.Global.{Global}
-use Rattle.std.specs.declared.vec.Vec.{Vec}
 use Rattle.wm_graph.specs.Parts.{Parts, parts_of, space_of}
 use Rattle.wm_graph.specs.Rules.{keep_rules}
 use Rattle.wm_spec.specs.Records.{AreChanges}
@@ -118,7 +116,7 @@ drafts_saved rs m work n name a c counters_id space_id id rules can_work can the
   turned = λ left. absurd (true≢false (sym left));
 }
   where
-    no_append : (i : ℕ) (entries : Vec NewEntry Global) → edits.Save n name ∷ [] ≡ edits.Append i entries ∷ [] → ⊥
+    no_append : (i : ℕ) (entries : List NewEntry) → edits.Save n name ∷ [] ≡ edits.Append i entries ∷ [] → ⊥
     no_append i entries e = cc
 
     x : Record

@@ -2,8 +2,6 @@
 use Rattle.std.proofs.Common.{◌≡◌, ℕ, ◌+◌, nat_lt, true, List, [], ◌∷◌, ◌++◌, map, length, Some, refl, sym, ap, subst, ◌∙◌}
 use Rattle.std.proofs.lemmas.Option.{same_Some}
 use Rattle.std.proofs.lemmas.Bool.{true≢false}
-use Rattle.std.specs.declared.alloc.Global.{Global}
-use Rattle.std.specs.declared.vec.Vec.{Vec}
 use Rattle.wm_graph.specs.Parts.{Parts, parts_of, space_of}
 use Rattle.wm_graph.specs.Rules.{keep_rules}
 use Rattle.wm_spec.specs.Lists.{Entry}
@@ -65,7 +63,7 @@ may_log p m work a c es rules can_work can there one = record {
 }
 
 -- the batch makes of the records what the log that gains the entries makes of each state
-pub drafts_gain : (rs : List Stored) (m work : ℕ) (entries : Vec NewEntry Global) (a : Space) (c : Counters) (counters_id space_id id : ℕ) (ids : List ℕ) (traced : List PieceRecord) → keep_rules (parts_of rs) ≡ true
+pub drafts_gain : (rs : List Stored) (m work : ℕ) (entries : List NewEntry) (a : Space) (c : Counters) (counters_id space_id id : ℕ) (ids : List ℕ) (traced : List PieceRecord) → keep_rules (parts_of rs) ≡ true
     → CanWork (parts_of rs) m work → CanGain (parts_of rs) a.number (entries_in entries) → space_of (parts_of rs).spaces a.number ≡ Some a → Places rs counters_id space_id id c a → Retraced rs a (entries_in entries) ids traced
     → DraftsBy work rs m (edits.Gain a.number entries ∷ []) (gain_batch (parts_of rs).tables counters_id (moved c m work) space_id a ids id (entries_in entries) traced)
 drafts_gain rs m work entries a c counters_id space_id id ids traced rules can_work can there at r = record {
@@ -89,7 +87,7 @@ drafts_gain rs m work entries a c counters_id space_id id ids traced rules can_w
     es : List Entry
     es = entries_in entries
 
-    no_append : (n : ℕ) (more : Vec NewEntry Global) → edits.Gain a.number entries ∷ [] ≡ edits.Append n more ∷ [] → ⊥
+    no_append : (n : ℕ) (more : List NewEntry) → edits.Gain a.number entries ∷ [] ≡ edits.Append n more ∷ [] → ⊥
     no_append n more e = cc
 
     d : Counters

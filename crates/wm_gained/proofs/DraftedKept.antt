@@ -4,8 +4,6 @@ use Rattle.std.proofs.Common.{◌≡◌, ℕ, ◌+◌, ◌≤◌, nat_lt, true, 
 use Rattle.std.proofs.lemmas.Option.{same_Some}
 use Rattle.std.proofs.lemmas.Bool.{true≢false}
 use Rattle.std.specs.Option.{option_and_then, option_map, unwrap_or}
-use Rattle.std.specs.declared.alloc.Global.{Global}
-use Rattle.std.specs.declared.vec.Vec.{Vec}
 use Rattle.wm_graph.specs.Parts.{Parts, parts_of, space_of}
 use Rattle.wm_graph.specs.Rules.{keep_rules}
 use Rattle.wm_spec.specs.Records.{AreChanges}
@@ -96,7 +94,7 @@ drafts_keep rs m work n a c counters_id space_id id rules can_work can there at 
       ap (λ (q : Parts). q.turns) (parts-saved rs counters_id space_id c (moved c m work) a (a.next_place + 1) (a.next_implicit + 1) id x at.sorted at.counters at.one at.space at.under).is;
 }
   where
-    no_append : (i : ℕ) (entries : Vec NewEntry Global) → edits.Keep n ∷ [] ≡ edits.Append i entries ∷ [] → ⊥
+    no_append : (i : ℕ) (entries : List NewEntry) → edits.Keep n ∷ [] ≡ edits.Append i entries ∷ [] → ⊥
     no_append i entries e = cc
 
     x : Record

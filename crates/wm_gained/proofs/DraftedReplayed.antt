@@ -3,8 +3,6 @@ use Rattle.std.proofs.Common.{◌≡◌, ℕ, ◌+◌, ◌≤◌, nat_lt, true, 
 use Rattle.std.proofs.lemmas.Option.{same_Some}
 use Rattle.std.proofs.lemmas.Bool.{true≢false}
 use Rattle.std.specs.List.{list_all}
-use Rattle.std.specs.declared.alloc.Global.{Global}
-use Rattle.std.specs.declared.vec.Vec.{Vec}
 use Rattle.wm_graph.specs.Parts.{Parts, parts_of, space_of}
 use Rattle.wm_graph.specs.Rules.{keep_rules}
 use Rattle.wm_spec.specs.Lists.{Entry}
@@ -81,7 +79,7 @@ may_replay p m work a c es rules can_work can there one = record {
 
 -- the batch puts the pieces of the entries as they are, for which touches alone go, and makes of the records what the entries make of each
 -- state
-pub drafts_replay : (rs : List Stored) (m work : ℕ) (entries : Vec NewEntry Global) (a : Space) (c : Counters) (counters_id space_id id : ℕ) (ids : List ℕ) (traced : List PieceRecord) → keep_rules (parts_of rs) ≡ true
+pub drafts_replay : (rs : List Stored) (m work : ℕ) (entries : List NewEntry) (a : Space) (c : Counters) (counters_id space_id id : ℕ) (ids : List ℕ) (traced : List PieceRecord) → keep_rules (parts_of rs) ≡ true
     → CanWork (parts_of rs) m work → CanReplay (parts_of rs) a.number (entries_in entries) → space_of (parts_of rs).spaces a.number ≡ Some a → Places rs counters_id space_id id c a → Retraced rs a (entries_in entries) ids traced
     → DraftsBy work rs m (edits.Replay a.number entries ∷ [])
     (replay_batch (parts_of rs).tables counters_id (versioned c m work) space_id a ids id (next_version (parts_of rs) a.number c) (entries_in entries) (pieces_of c.next_version (entries_in entries)) traced)
@@ -107,7 +105,7 @@ drafts_replay rs m work entries a c counters_id space_id id ids traced rules can
     es : List Entry
     es = entries_in entries
 
-    no_append : (n : ℕ) (more : Vec NewEntry Global) → edits.Replay a.number entries ∷ [] ≡ edits.Append n more ∷ [] → ⊥
+    no_append : (n : ℕ) (more : List NewEntry) → edits.Replay a.number entries ∷ [] ≡ edits.Append n more ∷ [] → ⊥
     no_append n more e = cc
 
     d : Counters

@@ -3,8 +3,6 @@
 use Rattle.std.proofs.Common.{◌≡◌, ℕ, ◌≤◌, ◌==◌, Bool, true, false, cond, List, length, map, Option, Some, None, unwrap_or, refl, ap, ◌∙◌, le_refl}
 use Rattle.std.proofs.lemmas.Bool.{eqb-true}
 use Rattle.std.specs.Option.{option_and_then, option_map}
-use Rattle.std.specs.declared.alloc.Global.{Global}
-use Rattle.std.specs.declared.vec.Vec.{Vec}
 use Rattle.wm_state.specs.Editing.{edited, entry_of, keep_in, parent_of, rebased, rebased_in}
 use Rattle.wm_state.specs.State.{Durable, Workspace, with_entries, with_space, workspace_of}
 use Rattle.wm_state.specs.declared.edit.Edit.TheVariants as edits
@@ -73,13 +71,13 @@ keep_leaves_parents m k s n = by_workspace (workspace_of s.spaces k)
 
 -- ---- entries that come into another workspace
 
-pub replay_leaves_space : (m k n : ℕ) (entries : Vec NewEntry Global) → (n == k) ≡ false → LeavesSpace (edited m (edits.Replay k entries)) n
-replay_leaves_space m k n entries other s = other_still k n (with_entries (map entry_of entries.items)) (λ x. refl) other s.spaces
+pub replay_leaves_space : (m k n : ℕ) (entries : List NewEntry) → (n == k) ≡ false → LeavesSpace (edited m (edits.Replay k entries)) n
+replay_leaves_space m k n entries other s = other_still k n (with_entries (map entry_of entries)) (λ x. refl) other s.spaces
 
-pub replay_leaves_parents : (m k : ℕ) (entries : Vec NewEntry Global) → LeavesParents (edited m (edits.Replay k entries))
-replay_leaves_parents m k entries s n = part_still (λ (w : Workspace). w.parent) k n (with_entries (map entry_of entries.items)) (λ x. refl) (λ x. refl) s.spaces
+pub replay_leaves_parents : (m k : ℕ) (entries : List NewEntry) → LeavesParents (edited m (edits.Replay k entries))
+replay_leaves_parents m k entries s n = part_still (λ (w : Workspace). w.parent) k n (with_entries (map entry_of entries)) (λ x. refl) (λ x. refl) s.spaces
 
-pub leaves_replay : (m k n : ℕ) (entries : Vec NewEntry Global) → (n == k) ≡ false → LeavesLog (edited m (edits.Replay k entries)) n
+pub leaves_replay : (m k n : ℕ) (entries : List NewEntry) → (n == k) ≡ false → LeavesLog (edited m (edits.Replay k entries)) n
 leaves_replay m k n entries other = record {
   tables = λ s. refl;
   stamps = λ s. le_refl s.next_stamp;

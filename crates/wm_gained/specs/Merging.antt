@@ -1,7 +1,5 @@
 -- The edits of a merge, and what is asked of the records before the first of them.
 use Rattle.std.specs.Prelude.{ℕ, ◌≡◌, ◌==◌, Bool, true, false, if◌then◌else◌, List, [], ◌∷◌, map, Option, Some, None}
-use Rattle.std.specs.declared.alloc.Global.{Global}
-use Rattle.std.specs.declared.vec.Vec.{Vec}
 use Rattle.wm_graph.specs.Parts.{Parts}
 use Rattle.wm_state.specs.Drafts.{CanGain, CanKeep, CanRebase, CanRemove, CanReplay}
 use Rattle.wm_state.specs.Editing.{entry_of}
@@ -16,17 +14,17 @@ use Rattle.wm_state.specs.declared.edit.NewEntry.{NewEntry}
 pub record Leaving : Type 0 where
   pub removes : Bool
   pub rebases : Bool
-  pub gained : Option (Vec NewEntry Global)
+  pub gained : Option (List NewEntry)
 
 -- a merge: whether what is newest in the parent is kept first, what comes into the parent, if there is something, and what becomes of the
 -- workspace
 pub record Merge : Type 0 where
   pub keeps : Bool
-  pub own : Option (Vec NewEntry Global)
+  pub own : Option (List NewEntry)
   pub leaving : Leaving
 
 -- an edit that brings entries, where there are some, before others
-abbrev pub bringing : (Vec NewEntry Global → Edit) → Option (Vec NewEntry Global) → List Edit → List Edit
+abbrev pub bringing : (List NewEntry → Edit) → Option (List NewEntry) → List Edit → List Edit
 bringing edit None es = es
 bringing edit (Some entries) es = edit entries ∷ es
 
@@ -44,11 +42,11 @@ merge_edits parent n x = let behind = bringing (edits.Replay parent) x.own (leav
 pub record CanLeave (p : Parts) (n : ℕ) (l : Leaving) : Type 0 where
   pub remove : l.removes ≡ true → CanRemove p n
   pub rebase : l.removes ≡ false → l.rebases ≡ true → CanRebase p n true
-  pub gain : l.removes ≡ false → l.rebases ≡ true → (entries : Vec NewEntry Global) → l.gained ≡ Some entries → CanGain p n (map entry_of entries.items)
+  pub gain : l.removes ≡ false → l.rebases ≡ true → (entries : List NewEntry) → l.gained ≡ Some entries → CanGain p n (map entry_of entries)
 
 -- and of its parent, which is another one
 pub record CanMerge (p : Parts) (parent n : ℕ) (x : Merge) : Type 0 where
   pub other : (n == parent) ≡ false
   pub keep : x.keeps ≡ true → CanKeep p parent
-  pub replay : (entries : Vec NewEntry Global) → x.own ≡ Some entries → CanReplay p parent (map entry_of entries.items)
+  pub replay : (entries : List NewEntry) → x.own ≡ Some entries → CanReplay p parent (map entry_of entries)
   pub leave : CanLeave p n x.leaving

@@ -76,7 +76,7 @@ soonest-next date ss id ids best = by_record (record_at ss id) refl
 
 -- ---- by making
 
--- the savepoints of a list that were made on a date or later, and the first of them
+-- the savepoints of a list whose place was made on a date or later, and the first of them
 abbrev from_fields : ℕ → List Savepoint → Option SavepointFields
 from_fields date xs = first_from date (map saved_fields xs)
 

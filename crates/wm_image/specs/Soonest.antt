@@ -1,4 +1,4 @@
--- The first savepoint that was made on a date or later, of savepoints in any order.
+-- The first savepoint whose place was made on a date or later, of savepoints in any order.
 use Rattle.std.specs.Prelude.{ℕ, ◌&&◌, ◌||◌, ◌==◌, Bool, nat_le, nat_lt, if◌then◌else◌, List, [], ◌∷◌, Option, Some, None}
 use Rattle.std.specs.Bool.{then_some}
 use Rattle.wm_spec.specs.declared.record.savepoint.Savepoint.{Savepoint}
@@ -13,7 +13,7 @@ sooner None other = other
 sooner (Some x) None = Some x
 sooner (Some x) (Some y) = if is_sooner y x then Some y else Some x
 
--- the savepoint was made on a date or later
+-- the place of the savepoint was made on a date or later
 abbrev pub is_from : ℕ → Savepoint → Bool
 is_from date x = nat_le date x.moment
 

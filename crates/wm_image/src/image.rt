@@ -273,8 +273,8 @@ impl Image {
         savepoint_in(&self.kept, ids_of(&self.index.savepoints, &making), space)
     }
 
-    /// The first savepoint of a workspace that was made on a date or later: the one at the least place, and of these the
-    /// one made first.
+    /// The first savepoint of a workspace whose place was made on a date or later: the one at the least place, and of
+    /// these the one made first.
     pub fn savepoint_from(&self, space: u32, date: u64) -> Option<&Savepoint>
         ensures { option_map saved_fields (option_copied result) ≡ first_from date (map saved_fields (saved_in (parts_of self.now) space)) }
     {

@@ -1,4 +1,4 @@
-//! The first savepoint that was made on a date or later.
+//! The first savepoint whose place was made on a date or later.
 
 ghost use Rattle.std.specs.Prelude.{◌≡◌};
 ghost use Rattle.std.specs.Option.{option_copied, option_and_then};
@@ -29,7 +29,7 @@ fn sooner<'a>(one: Option<&'a Savepoint>, other: Option<&'a Savepoint>) -> Optio
     }
 }
 
-/// A record that is a savepoint that was made on the date or later.
+/// A record that is a savepoint whose place was made on the date or later.
 fn saved_from(found: Option<&Record>, date: u64) -> Option<&Savepoint>
     ensures { option_copied result ≡ passing (shown.is_from date) (option_and_then as_savepoint (option_copied found.entry)) }
 {
@@ -41,7 +41,8 @@ fn saved_from(found: Option<&Record>, date: u64) -> Option<&Savepoint>
     }
 }
 
-/// Of some savepoints that were made on the date or later, the one at the least place, and of these the one made first.
+/// Of some savepoints whose place was made on the date or later, the one at the least place, and of these the one made
+/// first.
 pub fn soonest<'a>(kept: &'a Kept, ids: &[u64], date: u64) -> Option<&'a Savepoint>
     ensures { option_copied result ≡ shown.soonest date (kind_at as_savepoint (listed kept.now.entries) ids.now) }
 {

@@ -22,8 +22,6 @@ use Rattle.wm_state.specs.State.{Durable, Workspace}
 use Rattle.wm_state.specs.Standing.{CountersStand, FieldsStand, SpaceFields, Stands, fields_in, fields_of}
 use Rattle.wm_state.specs.declared.edit.Edit.TheVariants as edits
 use Rattle.wm_state.specs.declared.edit.NewEntry.{NewEntry}
-use Rattle.std.specs.declared.alloc.Global.{Global}
-use Rattle.std.specs.declared.vec.Vec.{Vec}
 use Rattle.wm_state.proofs.Apart.{Ruled, each_space, keeps_all, ruled}
 use Rattle.wm_state.proofs.ById.{Ascend-set}
 use Rattle.wm_state.proofs.ByKind.{Split, kinds, set-split, split_of, stored}
@@ -213,7 +211,7 @@ drafts_freeze rs m work a mode writer c counters_id space_id rules can_work shor
     after : Durable → Durable
     after s = drafted_by work m (edits.Freeze a.number mode writer ∷ []) s
 
-    no_append : (n : ℕ) (more : Vec NewEntry Global) → edits.Freeze a.number mode writer ∷ [] ≡ edits.Append n more ∷ [] → ⊥
+    no_append : (n : ℕ) (more : List NewEntry) → edits.Freeze a.number mode writer ∷ [] ≡ edits.Append n more ∷ [] → ⊥
     no_append n more e = cc
 
     may : MayCount p c d 0

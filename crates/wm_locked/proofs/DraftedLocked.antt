@@ -3,8 +3,6 @@ use Rattle.std.proofs.Common.{◌≡◌, ℕ, ◌+◌, ◌-◌, ◌≤◌, nat_l
 use Rattle.std.proofs.lemmas.Bool.{and_from, and_parts, lt-ltb, true≢false}
 use Rattle.std.specs.List.{filter, list_all}
 use Rattle.std.specs.Option.{option_map_or}
-use Rattle.std.specs.declared.alloc.Global.{Global}
-use Rattle.std.specs.declared.vec.Vec.{Vec}
 use Rattle.wm_graph.specs.Parts.{Parts, parts_of, space_of, table_of}
 use Rattle.wm_graph.specs.Rules.{is_given, keep_rules}
 use Rattle.wm_spec.specs.Records.{AreChanges, ids_differ}
@@ -122,7 +120,7 @@ drafts_lock rs m work a mode user cells place c counters_id id rules can_work ro
         behind : (next k : ℕ) → next ≡ k + 1 → next - 1 ≡ k
         behind next k e = omega (arith, e)
 
-    no_append : (n : ℕ) (more : Vec NewEntry Global) → edits.Lock a.number mode user cells ∷ [] ≡ edits.Append n more ∷ [] → ⊥
+    no_append : (n : ℕ) (more : List NewEntry) → edits.Lock a.number mode user cells ∷ [] ≡ edits.Append n more ∷ [] → ⊥
     no_append n more e = cc
 
     given : is_given (space_of p.spaces) a.number place ≡ true
@@ -186,7 +184,7 @@ drafts_unlock rs m work makings ids c counters_id id rules can_work are apart at
     after : Durable → Durable
     after s = drafted_by work m (edits.Unlock makings ∷ []) s
 
-    no_append : (n : ℕ) (more : Vec NewEntry Global) → edits.Unlock makings ∷ [] ≡ edits.Append n more ∷ [] → ⊥
+    no_append : (n : ℕ) (more : List NewEntry) → edits.Unlock makings ∷ [] ≡ edits.Append n more ∷ [] → ⊥
     no_append n more e = cc
 
     no_more : (xs : List ℕ) → map drop_one xs ++ [] ≡ map drop_one xs

@@ -73,8 +73,8 @@ KeepsMarks old new = (parts_of new).marks ≡ (parts_of old).marks
 -- the pieces of that version and the marks of the workspace; locks that go change one for each making; nothing is said of other edits
 abbrev pub Costs : List Stored → Edit → List Stored → Type 0
 Costs old (edits.Keep n) new = ChangesBeside (is_head n) 1 old new × KeepsMarks old new
-Costs old (edits.Replay n entries) new = ChangesBeside (is_head n) (1 + 4 * length entries.items + touch_price (parts_of old) n (map entry_of entries.items)) old new × KeepsMarks old new
-Costs old (edits.Gain n entries) new = ChangesBeside (is_head n) (3 * length entries.items + touch_price (parts_of old) n (map entry_of entries.items)) old new
+Costs old (edits.Replay n entries) new = ChangesBeside (is_head n) (1 + 4 * length entries + touch_price (parts_of old) n (map entry_of entries)) old new × KeepsMarks old new
+Costs old (edits.Gain n entries) new = ChangesBeside (is_head n) (3 * length entries + touch_price (parts_of old) n (map entry_of entries)) old new
 Costs old (edits.Rebase n emptied) new = ChangesBeside (is_head n) (2 + length (pieces_at (parts_of new) (latest (parts_of new) n)) + length (marks_at (parts_of old) n)) old new
 Costs old (edits.Unlock makings) new = ChangesBeside holds_counters (length makings) old new
 Costs old e new = Unit {0}

@@ -6,8 +6,6 @@ use Rattle.std.proofs.lemmas.Bool.{and_from, true≢false}
 use Rattle.std.proofs.lemmas.Option.{same_Some}
 use Rattle.std.specs.List.{All, list_all, list_any}
 use Rattle.std.specs.Option.{option_and_then, option_map, unwrap_or}
-use Rattle.std.specs.declared.alloc.Global.{Global}
-use Rattle.std.specs.declared.vec.Vec.{Vec}
 use Rattle.wm_base.specs.declared.instant.TheConstants.{END}
 use Rattle.wm_graph.specs.Parts.{Parts, parts_of, space_of}
 use Rattle.wm_graph.specs.Rules.{are_pieces, keep_rules}
@@ -134,7 +132,7 @@ drafts_rebase rs m work emptied c a b counters_id space_id id ids ks rules can_w
   turned = λ left. absurd (true≢false (sym left));
 }
   where
-    no_append : (i : ℕ) (entries : Vec NewEntry Global) → edits.Rebase a.number emptied ∷ [] ≡ edits.Append i entries ∷ [] → ⊥
+    no_append : (i : ℕ) (entries : List NewEntry) → edits.Rebase a.number emptied ∷ [] ≡ edits.Append i entries ∷ [] → ⊥
     no_append i entries e = cc
 
     d : Counters

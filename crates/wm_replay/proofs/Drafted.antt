@@ -1,7 +1,5 @@
 -- What is written where entries that were made before come into a log, or into a workspace, is a draft of it.
 use Rattle.std.proofs.Common.{◌≡◌, ℕ, ◌+◌, ◌≤◌, true, List, [], ◌∷◌, ◌++◌, length, map, Some, None, refl, sym, ap, subst, ◌∙◌}
-use Rattle.std.specs.declared.alloc.Global.{Global}
-use Rattle.std.specs.declared.vec.Vec.{Vec}
 use Rattle.wm_append.proofs.Appended.{counted_so, written_places}
 use Rattle.wm_append.proofs.Written.{in_order}
 use Rattle.wm_append.specs.Appending.{AreWritten}
@@ -61,16 +59,16 @@ batch_so changes front first counters d counters_id space_id id from longer spac
 
 -- ---- a log gains entries
 
-gains_own : (rs : List Stored) (m work place id count : ℕ) (entries : Vec NewEntry Global) (a longer : Space) (c counters : Counters) (front changes : List Change) (drawn : List PieceRecord) (dropped : List ℕ) (hists news : List Record)
+gains_own : (rs : List Stored) (m work place id count : ℕ) (entries : List NewEntry) (a longer : Space) (c counters : Counters) (front changes : List Change) (drawn : List PieceRecord) (dropped : List ℕ) (hists news : List Record)
     → keep_rules (parts_of rs) ≡ true → CanWork (parts_of rs) m work → CanGain (parts_of rs) a.number (entries_in entries) → space_of (parts_of rs).spaces a.number ≡ Some a → (parts_of rs).counters ≡ c ∷ [] → ((i : ℕ) → id ≤ i → record_at rs i ≡ None)
-    → a.next_place ≡ place + 1 → counters ≡ moved c m work → count ≡ length entries.items → longer ≡ longer_by count a → front ≡ [] → IsRedrawn (touch_in a.number) rs (marks_of place a.log_length (entries_in entries)) dropped drawn
+    → a.next_place ≡ place + 1 → counters ≡ moved c m work → count ≡ length entries → longer ≡ longer_by count a → front ≡ [] → IsRedrawn (touch_in a.number) rs (marks_of place a.log_length (entries_in entries)) dropped drawn
     → Comes rs a.number place a (entries_in entries) drawn hists [] news → AreWritten rs front counters longer id dropped news changes → DraftsBy work rs m (edits.Gain a.number entries ∷ []) changes
 gains_own rs m work place id count entries a longer c counters front changes drawn dropped hists news rules can_work can there one above last counts many longer_is none redrawn comes w =
     subst (DraftsBy work rs m (edits.Gain a.number entries ∷ []))
     (sym
     (batch_so changes front [] counters (moved c m work) w.counters_id w.space_id id id longer (longer_by (length es) a) dropped news
     (map records.Touch (map (trace_of a.number) drawn) ++ map records.Hist (hists_kept (parts_of rs).tables a.number a.log_length es)) w.are none counts
-    (longer_is ∙ ap (λ k. longer_by k a) (counted_so entries.items count many)) refl (comes_so rs place a es dropped drawn hists [] news comes redrawn)))
+    (longer_is ∙ ap (λ k. longer_by k a) (counted_so entries count many)) refl (comes_so rs place a es dropped drawn hists [] news comes redrawn)))
     (drafts_gain rs m work entries a c w.counters_id w.space_id id dropped drawn rules can_work can there
     (written_places rs front counters c a longer id id dropped news changes one there (ap (λ (b : Space). b.number) longer_is) above w) (retraced_so rs a place es dropped drawn last redrawn))
   where
@@ -78,9 +76,9 @@ gains_own rs m work place id count entries a longer c counters front changes dra
     es = entries_in entries
 
 -- told of the number by which the workspace was found
-pub drafts_gaining : (rs : List Stored) (m work n place id count : ℕ) (entries : Vec NewEntry Global) (a longer : Space) (c counters : Counters) (front changes : List Change) (drawn : List PieceRecord) (dropped : List ℕ) (hists news : List Record)
+pub drafts_gaining : (rs : List Stored) (m work n place id count : ℕ) (entries : List NewEntry) (a longer : Space) (c counters : Counters) (front changes : List Change) (drawn : List PieceRecord) (dropped : List ℕ) (hists news : List Record)
     → keep_rules (parts_of rs) ≡ true → CanWork (parts_of rs) m work → CanGain (parts_of rs) n (entries_in entries) → space_of (parts_of rs).spaces n ≡ Some a → (parts_of rs).counters ≡ c ∷ [] → ((i : ℕ) → id ≤ i → record_at rs i ≡ None)
-    → a.next_place ≡ place + 1 → counters ≡ moved c m work → count ≡ length entries.items → longer ≡ longer_by count a → front ≡ [] → IsRedrawn (touch_in n) rs (marks_of place a.log_length (entries_in entries)) dropped drawn
+    → a.next_place ≡ place + 1 → counters ≡ moved c m work → count ≡ length entries → longer ≡ longer_by count a → front ≡ [] → IsRedrawn (touch_in n) rs (marks_of place a.log_length (entries_in entries)) dropped drawn
     → Comes rs n place a (entries_in entries) drawn hists [] news → AreWritten rs front counters longer id dropped news changes → DraftsBy work rs m (edits.Gain n entries ∷ []) changes
 drafts_gaining rs m work n place id count entries a longer c counters front changes drawn dropped hists news rules can_work can found one above last counts many longer_is none redrawn comes w =
     subst
@@ -94,9 +92,9 @@ drafts_gaining rs m work n place id count entries a longer c counters front chan
 -- ---- entries come into a workspace
 
 -- the version, and behind it the batch
-replays_own : (rs : List Stored) (m work place id next parent count : ℕ) (entries : Vec NewEntry Global) (a longer : Space) (c counters : Counters) (front changes : List Change) (drawn pieces : List PieceRecord) (dropped : List ℕ) (hists first news : List Record)
+replays_own : (rs : List Stored) (m work place id next parent count : ℕ) (entries : List NewEntry) (a longer : Space) (c counters : Counters) (front changes : List Change) (drawn pieces : List PieceRecord) (dropped : List ℕ) (hists first news : List Record)
     → keep_rules (parts_of rs) ≡ true → CanWork (parts_of rs) m work → CanReplay (parts_of rs) a.number (entries_in entries) → space_of (parts_of rs).spaces a.number ≡ Some a → (parts_of rs).counters ≡ c ∷ []
-    → ((i : ℕ) → id ≤ i → record_at rs i ≡ None) → next ≡ id + 1 → a.next_place ≡ place + 1 → counters ≡ versioned c m work → count ≡ length entries.items → longer ≡ longer_by count a
+    → ((i : ℕ) → id ≤ i → record_at rs i ≡ None) → next ≡ id + 1 → a.next_place ≡ place + 1 → counters ≡ versioned c m work → count ≡ length entries → longer ≡ longer_by count a
     → front ≡ put id (records.Version (record { number = c.next_version; space = a.number; parent = parent })) ∷ [] → parent ≡ latest (parts_of rs) a.number → pieces ≡ pieces_of c.next_version (entries_in entries)
     → first ≡ map records.Piece pieces → IsRedrawn (touch_in a.number) rs (marks_of place a.log_length (entries_in entries)) dropped drawn → Comes rs a.number place a (entries_in entries) drawn hists first news
     → AreWritten rs front counters longer next dropped news changes → DraftsBy work rs m (edits.Replay a.number entries ∷ []) changes
@@ -105,7 +103,7 @@ replays_own rs m work place id next parent count entries a longer c counters fro
     (sym
     (batch_so changes front (put id (records.Version (next_version (parts_of rs) a.number c)) ∷ []) counters (versioned c m work) w.counters_id w.space_id next (id + 1) longer (longer_by (length es) a) dropped news
     (map records.Piece (pieces_of c.next_version es) ++ (map records.Touch (map (trace_of a.number) drawn) ++ map records.Hist (hists_kept (parts_of rs).tables a.number a.log_length es))) w.are
-    (begins ∙ ap (λ k. put id (records.Version (record { number = c.next_version; space = a.number; parent = k })) ∷ []) newest) counts (longer_is ∙ ap (λ k. longer_by k a) (counted_so entries.items count many)) after
+    (begins ∙ ap (λ k. put id (records.Version (record { number = c.next_version; space = a.number; parent = k })) ∷ []) newest) counts (longer_is ∙ ap (λ k. longer_by k a) (counted_so entries count many)) after
     (comes_so rs place a es dropped drawn hists first news comes redrawn
     ∙ ap (λ (xs : List Record). xs ++ (map records.Touch (map (trace_of a.number) drawn) ++ map records.Hist (hists_kept (parts_of rs).tables a.number a.log_length es)))
     (first_is ∙ ap (λ (xs : List PieceRecord). map records.Piece xs) pieces_are))))
@@ -115,9 +113,9 @@ replays_own rs m work place id next parent count entries a longer c counters fro
     es : List Entry
     es = entries_in entries
 
-pub drafts_replaying : (rs : List Stored) (m work n place id next parent count : ℕ) (entries : Vec NewEntry Global) (a longer : Space) (c counters : Counters) (front changes : List Change) (drawn pieces : List PieceRecord) (dropped : List ℕ) (hists first news : List Record)
+pub drafts_replaying : (rs : List Stored) (m work n place id next parent count : ℕ) (entries : List NewEntry) (a longer : Space) (c counters : Counters) (front changes : List Change) (drawn pieces : List PieceRecord) (dropped : List ℕ) (hists first news : List Record)
     → keep_rules (parts_of rs) ≡ true → CanWork (parts_of rs) m work → CanReplay (parts_of rs) n (entries_in entries) → space_of (parts_of rs).spaces n ≡ Some a → (parts_of rs).counters ≡ c ∷ []
-    → ((i : ℕ) → id ≤ i → record_at rs i ≡ None) → next ≡ id + 1 → a.next_place ≡ place + 1 → counters ≡ versioned c m work → count ≡ length entries.items → longer ≡ longer_by count a
+    → ((i : ℕ) → id ≤ i → record_at rs i ≡ None) → next ≡ id + 1 → a.next_place ≡ place + 1 → counters ≡ versioned c m work → count ≡ length entries → longer ≡ longer_by count a
     → front ≡ put id (records.Version (record { number = c.next_version; space = n; parent = parent })) ∷ [] → parent ≡ latest (parts_of rs) n → pieces ≡ pieces_of c.next_version (entries_in entries)
     → first ≡ map records.Piece pieces → IsRedrawn (touch_in n) rs (marks_of place a.log_length (entries_in entries)) dropped drawn → Comes rs n place a (entries_in entries) drawn hists first news
     → AreWritten rs front counters longer next dropped news changes → DraftsBy work rs m (edits.Replay n entries ∷ []) changes

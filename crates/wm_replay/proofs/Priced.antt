@@ -3,8 +3,6 @@ use Rattle.std.proofs.Common.{◌≡◌, ℕ, ◌+◌, ◌-◌, ◌*◌, ◌≤�
 use Rattle.std.proofs.lemmas.List.{length-map}
 use Rattle.std.specs.List.{cons_option, filter}
 use Rattle.std.specs.Option.{option_map_or}
-use Rattle.std.specs.declared.alloc.Global.{Global}
-use Rattle.std.specs.declared.vec.Vec.{Vec}
 use Rattle.wm_append.proofs.Appended.{written_places}
 use Rattle.wm_append.proofs.TwoLayers.{touches_seen}
 use Rattle.wm_append.specs.Appending.{AreWritten}
@@ -116,7 +114,7 @@ price_there rs n a es found = ap {B = ℕ} (λ (o : Option Space). option_map_or
 
 -- ---- the prices
 
-pub gain_costs : (rs : List Stored) (n place id count : ℕ) (entries : Vec NewEntry Global) (a longer : Space) (counters : Counters) (front changes : List Change) (marks drawn : List PieceRecord) (dropped : List ℕ) (hists news : List Record)
+pub gain_costs : (rs : List Stored) (n place id count : ℕ) (entries : List NewEntry) (a longer : Space) (counters : Counters) (front changes : List Change) (marks drawn : List PieceRecord) (dropped : List ℕ) (hists news : List Record)
     → space_of (parts_of rs).spaces n ≡ Some a → longer ≡ longer_by count a → front ≡ [] → marks ≡ marks_of (a.next_place - 1) a.log_length (entries_in entries)
     → IsRedrawn (touch_in n) rs (marks_of (a.next_place - 1) a.log_length (entries_in entries)) dropped drawn → length drawn ≤ 2 * length marks + length dropped → Comes rs n place a (entries_in entries) drawn hists [] news
     → AreWritten rs front counters longer id dropped news changes → Costs rs (edits.Gain n entries) (applied changes rs)
@@ -125,23 +123,23 @@ gain_costs rs n place id count entries a longer counters front changes marks dra
     let fronts = ap (λ (xs : List Change). length xs) none in
     let many = ap (λ (xs : List PieceRecord). length xs) marks_are in
     let marked = length-marks (a.next_place - 1) a.log_length es in
-    let entered = length-map entries.items entry_of in
+    let entered = length-map entries entry_of in
     let gone = met_gone rs n a es dropped drawn found redrawn in
     let all = came rs n place a es drawn hists [] news comes in
     let price = price_there rs n a es found in
-    few_more (is_head n) (length front + (length dropped + length news)) (3 * length entries.items + touch_price (parts_of rs) n es) rs (applied changes rs) (omega (arith, fronts, many, marked, entered, gone, all, price, few))
+    few_more (is_head n) (length front + (length dropped + length news)) (3 * length entries + touch_price (parts_of rs) n es) rs (applied changes rs) (omega (arith, fronts, many, marked, entered, gone, all, price, few))
     (written_beside rs n id front counters longer dropped news changes (longer_number rs n count a longer found longer_is) w)
 
-pub replay_costs : (rs : List Stored) (n place id count version : ℕ) (entries : Vec NewEntry Global) (a longer : Space) (counters : Counters) (one : Change) (front changes : List Change) (marks drawn pieces : List PieceRecord) (dropped : List ℕ) (hists first news : List Record)
+pub replay_costs : (rs : List Stored) (n place id count version : ℕ) (entries : List NewEntry) (a longer : Space) (counters : Counters) (one : Change) (front changes : List Change) (marks drawn pieces : List PieceRecord) (dropped : List ℕ) (hists first news : List Record)
     → space_of (parts_of rs).spaces n ≡ Some a → longer ≡ longer_by count a → front ≡ one ∷ [] → marks ≡ marks_of (a.next_place - 1) a.log_length (entries_in entries) → pieces ≡ pieces_of version (entries_in entries) → first ≡ map records.Piece pieces
     → IsRedrawn (touch_in n) rs (marks_of (a.next_place - 1) a.log_length (entries_in entries)) dropped drawn → length drawn ≤ 2 * length marks + length dropped → Comes rs n place a (entries_in entries) drawn hists first news
-    → AreWritten rs front counters longer id dropped news changes → ChangesBeside (is_head n) (1 + 4 * length entries.items + touch_price (parts_of rs) n (entries_in entries)) rs (applied changes rs)
+    → AreWritten rs front counters longer id dropped news changes → ChangesBeside (is_head n) (1 + 4 * length entries + touch_price (parts_of rs) n (entries_in entries)) rs (applied changes rs)
 replay_costs rs n place id count version entries a longer counters one front changes marks drawn pieces dropped hists first news found longer_is none marks_are pieces_are first_is redrawn few comes w =
     let es = entries_in entries in
     let fronts = ap (λ (xs : List Change). length xs) none in
     let many = ap (λ (xs : List PieceRecord). length xs) marks_are in
     let marked = length-marks (a.next_place - 1) a.log_length es in
-    let entered = length-map entries.items entry_of in
+    let entered = length-map entries entry_of in
     let its = ap (λ (xs : List PieceRecord). length xs) pieces_are in
     let pieced = length-map es (piece_of version) in
     let firsts = ap (λ (xs : List Record). length xs) first_is in
@@ -149,7 +147,7 @@ replay_costs rs n place id count version entries a longer counters one front cha
     let gone = met_gone rs n a es dropped drawn found redrawn in
     let all = came rs n place a es drawn hists first news comes in
     let price = price_there rs n a es found in
-    few_more (is_head n) (length front + (length dropped + length news)) (1 + 4 * length entries.items + touch_price (parts_of rs) n es) rs (applied changes rs)
+    few_more (is_head n) (length front + (length dropped + length news)) (1 + 4 * length entries + touch_price (parts_of rs) n es) rs (applied changes rs)
     (omega (arith, fronts, many, marked, entered, its, pieced, firsts, first_many, gone, all, price, few)) (written_beside rs n id front counters longer dropped news changes (longer_number rs n count a longer found longer_is) w)
 
 -- ---- marks

@@ -13,7 +13,7 @@ use wm_append::append::made::has_history;
 use wm_base::Memory;
 use wm_image::Image;
 use wm_spec::record::Space;
-use wm_state::edit::NewEntry;
+use wm_state::edit::Entries;
 
 /// The records of entries that come into a version of a workspace, at the last place that was given there and behind
 /// its log. Their rows are there already.
@@ -22,13 +22,13 @@ pub fn enter(
     image: &Image,
     space: &Space,
     version: u64,
-    entries: Vec<NewEntry>,
+    entries: Entries,
 ) -> Result<Entered, Memory>
     requires place { 0 < space.now.next_place }
-    requires log { space.now.log_length + length entries.items < 2 ^ 64 }
-    ensures pieces { IfOk result (λ entered. entered.pieces.items ≡ pieces_of version (map entry_of entries.items)) }
-    ensures marks { IfOk result (λ entered. (place : ℕ) → space.now.next_place ≡ place + 1 → entered.marks.items ≡ marks_of place space.now.log_length (map entry_of entries.items)) }
-    ensures hists { IfOk result (λ entered. entered.hists.items ≡ map records.Hist (hists_kept (parts_of image.now).tables space.now.number space.now.log_length (map entry_of entries.items))) }
+    requires log { space.now.log_length + length entries < 2 ^ 64 }
+    ensures pieces { IfOk result (λ entered. entered.pieces.items ≡ pieces_of version (map entry_of entries)) }
+    ensures marks { IfOk result (λ entered. (place : ℕ) → space.now.next_place ≡ place + 1 → entered.marks.items ≡ marks_of place space.now.log_length (map entry_of entries)) }
+    ensures hists { IfOk result (λ entered. entered.hists.items ≡ map records.Hist (hists_kept (parts_of image.now).tables space.now.number space.now.log_length (map entry_of entries))) }
 {
     let mut entered = Entered {
         rows: Vec::new(alloc),
@@ -37,7 +37,7 @@ pub fn enter(
         hists: Vec::new(alloc),
     };
     let mut position = space.log_length;
-    for entry in entries {
+    for entry in entries.into_vec() {
         let target = Target {
             version,
             space: space.number,

@@ -21,7 +21,7 @@ use wm_changes::changes::longer_by;
 use wm_changes::counts::{ids_from, moved};
 use wm_image::Image;
 use wm_spec::record::Changes;
-use wm_state::edit::NewEntry;
+use wm_state::edit::Entries;
 
 /// The log of a workspace gains entries: what they touch comes over its touches.
 pub fn gain(
@@ -30,11 +30,11 @@ pub fn gain(
     moment: u64,
     work: u64,
     space: u32,
-    entries: Vec<NewEntry>,
+    entries: Entries,
 ) -> Result<Changes, DraftFault>
     requires rules { keep_rules (parts_of image.now) ≡ true }
     requires work { CanWork (parts_of image.now) moment work }
-    requires can { CanGain (parts_of image.now) space (map entry_of entries.items) }
+    requires can { CanGain (parts_of image.now) space (map entry_of entries) }
     ensures drafts { IfOk result (DraftsBy work image.now moment (edits.Gain space entries ∷ [])) }
     ensures costs { IfOk result (λ changes. Costs image.now (edits.Gain space entries) (applied changes image.now)) }
     ensures full { IfErr result (λ fault. fault ≡ DraftFault.Ids → HasGreatId image.now) }

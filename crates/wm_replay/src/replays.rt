@@ -21,7 +21,7 @@ use wm_changes::changes::longer_by;
 use wm_changes::counts::{ids_from, versioned};
 use wm_image::Image;
 use wm_spec::record::{Changes, Version};
-use wm_state::edit::NewEntry;
+use wm_state::edit::Entries;
 
 /// Entries come into a version more of a workspace, with the stamps and the rows that they have; no piece of before is
 /// drawn anew for them.
@@ -31,11 +31,11 @@ pub fn replay(
     moment: u64,
     work: u64,
     space: u32,
-    entries: Vec<NewEntry>,
+    entries: Entries,
 ) -> Result<Changes, DraftFault>
     requires rules { keep_rules (parts_of image.now) ≡ true }
     requires work { CanWork (parts_of image.now) moment work }
-    requires can { CanReplay (parts_of image.now) space (map entry_of entries.items) }
+    requires can { CanReplay (parts_of image.now) space (map entry_of entries) }
     ensures drafts { IfOk result (DraftsBy work image.now moment (edits.Replay space entries ∷ [])) }
     ensures costs { IfOk result (λ changes. Costs image.now (edits.Replay space entries) (applied changes image.now)) }
     ensures full { IfErr result (λ fault. fault ≡ DraftFault.Ids → HasGreatId image.now) }

@@ -14,7 +14,7 @@ use wm_append::redraw::{Layer, all_left, append, drawn_as};
 use wm_base::{Kind, Memory};
 use wm_image::Image;
 use wm_spec::record::{PieceRecord, Record};
-use wm_state::edit::NewMark;
+use wm_state::edit::{Marks, NewMark};
 
 /// A new mark as a piece of a place.
 fn mark_piece(place: u32, mark: NewMark) -> PieceRecord
@@ -79,12 +79,12 @@ pub fn left_of_all(
     image: &Image,
     space: u32,
     place: u32,
-    marks: Vec<NewMark>,
+    marks: Marks,
 ) -> Result<Vec<PieceRecord>, Memory>
-    ensures { IfOk result (λ news. news.items ≡ flat_map (left_of image.now space place) marks.items) }
+    ensures { IfOk result (λ news. news.items ≡ flat_map (left_of image.now space place) marks) }
 {
     let mut news = Vec::new(alloc);
-    for mark in marks {
+    for mark in marks.into_vec() {
         let left = left_of(alloc, image, space, place, mark)?;
         append(&mut news, left)?;
     }

@@ -22,7 +22,7 @@ use wm_changes::changes::{drop_all, put, put_all};
 use wm_changes::counts::{ids_from, moved};
 use wm_image::Image;
 use wm_spec::record::{Changes, Counters, PieceRecord, Record, Trace};
-use wm_state::edit::NewMark;
+use wm_state::edit::Marks;
 
 /// Puts pieces as marks of a workspace at a place behind other records.
 fn push_marks(
@@ -74,11 +74,11 @@ pub fn settle(
     moment: u64,
     work: u64,
     space: u32,
-    marks: Vec<NewMark>,
+    marks: Marks,
 ) -> Result<Changes, DraftFault>
     requires rules { keep_rules (parts_of image.now) ≡ true }
     requires work { CanWork (parts_of image.now) moment work }
-    requires can { CanSettle (parts_of image.now) space marks.items }
+    requires can { CanSettle (parts_of image.now) space marks }
     ensures drafts { IfOk result (DraftsBy work image.now moment (edits.Settle space marks ∷ [])) }
     ensures costs { IfOk result (λ changes. Costs image.now (edits.Settle space marks) (applied changes image.now)) }
     ensures full { IfErr result (λ fault. fault ≡ DraftFault.Ids → HasGreatId image.now) }

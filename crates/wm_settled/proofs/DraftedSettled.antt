@@ -1,8 +1,6 @@
 -- What the batch that settles cells of a workspace makes of the records.
 use Rattle.std.proofs.Common.{◌≡◌, ℕ, true, List, [], ◌∷◌, Some, refl, sym, ap}
 use Rattle.std.proofs.lemmas.Bool.{true≢false}
-use Rattle.std.specs.declared.alloc.Global.{Global}
-use Rattle.std.specs.declared.vec.Vec.{Vec}
 use Rattle.wm_graph.specs.Parts.{Parts, parts_of, space_of}
 use Rattle.wm_graph.specs.Rules.{keep_rules}
 use Rattle.wm_spec.specs.Records.{AreChanges}
@@ -35,8 +33,8 @@ may_settle p m work a c ms rules can_work can there one =
     record { one = one; counters = moved_well p m work c rules can_work one; stamps = refl; versions = refl; work = work_grows c.work work; space = there; cells = can.cells }
 
 -- the batch makes of the records what the marks make of each state
-pub drafts_settle : (rs : List Stored) (m work : ℕ) (marks : Vec NewMark Global) (a : Space) (c : Counters) (counters_id id : ℕ) (ids : List ℕ) (drawn : List PieceRecord) → keep_rules (parts_of rs) ≡ true → CanWork (parts_of rs) m work
-    → CanSettle (parts_of rs) a.number marks.items → space_of (parts_of rs).spaces a.number ≡ Some a → CountersAt rs counters_id id c → Remarked rs a marks.items ids drawn
+pub drafts_settle : (rs : List Stored) (m work : ℕ) (marks : List NewMark) (a : Space) (c : Counters) (counters_id id : ℕ) (ids : List ℕ) (drawn : List PieceRecord) → keep_rules (parts_of rs) ≡ true → CanWork (parts_of rs) m work
+    → CanSettle (parts_of rs) a.number marks → space_of (parts_of rs).spaces a.number ≡ Some a → CountersAt rs counters_id id c → Remarked rs a marks ids drawn
     → DraftsBy work rs m (edits.Settle a.number marks ∷ []) (settle_batch counters_id (moved c m work) a.number ids id drawn)
 drafts_settle rs m work marks a c counters_id id ids drawn rules can_work can there at r = record {
   keeps = keeps;
@@ -57,9 +55,9 @@ drafts_settle rs m work marks a c counters_id id ids drawn rules can_work can th
 }
   where
     ms : List NewMark
-    ms = marks.items
+    ms = marks
 
-    no_append : (n : ℕ) (more : Vec NewEntry Global) → edits.Settle a.number marks ∷ [] ≡ edits.Append n more ∷ [] → ⊥
+    no_append : (n : ℕ) (more : List NewEntry) → edits.Settle a.number marks ∷ [] ≡ edits.Append n more ∷ [] → ⊥
     no_append n more e = cc
 
     d : Counters

@@ -2,8 +2,6 @@
 use Rattle.std.proofs.Common.{◌≡◌, ℕ, ◌==◌, Bool, true, cond, List, [], ◌∷◌, map, Option, Some, refl, sym, ◌∙◌}
 use Rattle.std.proofs.lemmas.Bool.{eq-eqb}
 use Rattle.std.specs.Option.{option_map}
-use Rattle.std.specs.declared.alloc.Global.{Global}
-use Rattle.std.specs.declared.vec.Vec.{Vec}
 use Rattle.wm_graph.specs.Parts.{Parts, parts_of, space_of, table_of}
 use Rattle.wm_graph.specs.Rules.{are_cells, keep_rules}
 use Rattle.wm_spec.specs.declared.record.batch.Change.{Change}
@@ -25,7 +23,7 @@ use Rattle.wm_state.proofs.Tests.{all_if}
 
 -- ---- behind entries that come into the workspace
 
-module _ (rs : List Stored) (m work n : ℕ) (entries : Vec NewEntry Global) (cs : List Change) (rules : keep_rules (parts_of rs) ≡ true) (drafts : DraftsBy work rs m (edits.Replay n entries ∷ []) cs) where
+module _ (rs : List Stored) (m work n : ℕ) (entries : List NewEntry) (cs : List Change) (rules : keep_rules (parts_of rs) ≡ true) (drafts : DraftsBy work rs m (edits.Replay n entries ∷ []) cs) where
   abbrev p : Parts
   p = parts_of rs
 
@@ -52,11 +50,11 @@ module _ (rs : List Stored) (m work n : ℕ) (entries : Vec NewEntry Global) (cs
   there_still : (a : Space) → space_of p.spaces n ≡ Some a → (b : Space) × (space_of q.spaces n ≡ Some b)
   there_still a there =
       let w = space_there p was n a before.spaces there in
-      let r = record_there q now n (with_entries (map entry_of entries.items) w.workspace) after.spaces
-      (workspace_of-changed n (with_entries (map entry_of entries.items)) (λ v. refl) was.spaces n ∙ by_test (n == n) (eq-eqb n n refl) (workspace_of was.spaces n) w.workspace w.is.found) in
+      let r = record_there q now n (with_entries (map entry_of entries) w.workspace) after.spaces
+      (workspace_of-changed n (with_entries (map entry_of entries)) (λ v. refl) was.spaces n ∙ by_test (n == n) (eq-eqb n n refl) (workspace_of was.spaces n) w.workspace w.is.found) in
       (r.recorded, r.is.recorded)
     where
-      by_test : (b : Bool) → b ≡ true → (o : Option Workspace) (v : Workspace) → o ≡ Some v → cond b (option_map (with_entries (map entry_of entries.items)) o) o ≡ Some (with_entries (map entry_of entries.items) v)
+      by_test : (b : Bool) → b ≡ true → (o : Option Workspace) (v : Workspace) → o ≡ Some v → cond b (option_map (with_entries (map entry_of entries)) o) o ≡ Some (with_entries (map entry_of entries) v)
       by_test b e o v found = rw (e, found) refl
 
   pub can_settle_next : (ms : List NewMark) → CanSettle p n ms → CanSettle q n ms
@@ -75,7 +73,7 @@ module _ (rs : List Stored) (m work n : ℕ) (entries : Vec NewEntry Global) (cs
       still : (k : NewMark) → are_cells (table_of q.tables) (cells_in k) ≡ are_cells (table_of p.tables) (cells_in k)
       still k = rw (tables_still k.table) refl
 
-pub settles_behind : (rs : List Stored) (m n : ℕ) (entries : Vec NewEntry Global) (marks : Vec NewMark Global) → Ascend rs → keep_rules (parts_of rs) ≡ true → CanReplay (parts_of rs) n (map entry_of entries.items) → CanSettle (parts_of rs) n marks.items
+pub settles_behind : (rs : List Stored) (m n : ℕ) (entries : List NewEntry) (marks : List NewMark) → Ascend rs → keep_rules (parts_of rs) ≡ true → CanReplay (parts_of rs) n (map entry_of entries) → CanSettle (parts_of rs) n marks
     → CanEditAll rs m (edits.Replay n entries ∷ edits.Settle n marks ∷ [])
 settles_behind rs m n entries marks sorted rules replay settle =
-    (replay, λ work cs drafts. (can_settle_next rs m work n entries cs rules drafts marks.items settle, λ more ds then. tt))
+    (replay, λ work cs drafts. (can_settle_next rs m work n entries cs rules drafts marks settle, λ more ds then. tt))

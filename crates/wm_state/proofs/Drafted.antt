@@ -3,8 +3,6 @@ use Rattle.std.proofs.Common.{◌≡◌, ◌≢◌, ◌≤◌, ◌<◌, ℕ, ◌
 use Rattle.std.proofs.lemmas.Option.{same_Some}
 use Rattle.std.proofs.lemmas.Bool.{true≢false}
 use Rattle.std.specs.Option.{option_map, unwrap_or}
-use Rattle.std.specs.declared.alloc.Global.{Global}
-use Rattle.std.specs.declared.vec.Vec.{Vec}
 use Rattle.wm_graph.specs.Parts.{parts_of}
 use Rattle.wm_graph.specs.Rules.{are_counters, has_key, keep_rules}
 use Rattle.wm_spec.specs.Records.{AreChanges, ids_differ, record_at}
@@ -107,7 +105,7 @@ drafts_created rs m work t c counters_id id rules can_work can one there sorted 
   turned = λ left. absurd (true≢false (sym left));
 }
   where
-    no_append : (n : ℕ) (entries : Vec NewEntry Global) → edits.Create t ∷ [] ≡ edits.Append n entries ∷ [] → ⊥
+    no_append : (n : ℕ) (entries : List NewEntry) → edits.Create t ∷ [] ≡ edits.Append n entries ∷ [] → ⊥
     no_append n entries e = cc
 
     below : (a b : ℕ) → a < b → a ≡ b → ⊥
@@ -156,7 +154,7 @@ drafts_enabled rs m work name valid history t c counters_id id rules can_work na
   turned = λ left. absurd (true≢false (sym left));
 }
   where
-    no_append : (n : ℕ) (entries : Vec NewEntry Global) → edits.Enable name valid history ∷ [] ≡ edits.Append n entries ∷ [] → ⊥
+    no_append : (n : ℕ) (entries : List NewEntry) → edits.Enable name valid history ∷ [] ≡ edits.Append n entries ∷ [] → ⊥
     no_append n entries e = cc
 
     how : Readiness

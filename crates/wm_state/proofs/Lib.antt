@@ -54,3 +54,4 @@ pub mod Drafted
 pub mod FieldsThere
 pub mod InOrder
 pub mod Locking
+pub mod NewEntries

@@ -4,9 +4,7 @@ use Rattle.std.specs.List.{All, filter, find, list_all, list_any}
 use Rattle.std.specs.Option.{option_map_or}
 use Rattle.std.specs.Ordering.{is_gt, nat_cmp, ordering_then}
 use Rattle.std.specs.Str.{bytes_eq}
-use Rattle.std.specs.declared.alloc.Global.{Global}
 use Rattle.std.specs.declared.cmp.Ordering.{Ordering}
-use Rattle.std.specs.declared.vec.Vec.{Vec}
 use Rattle.wm_base.specs.Key.{key_order}
 use Rattle.wm_base.specs.declared.instant.TheConstants.{END}
 use Rattle.wm_base.specs.declared.row.Row.{Row}
@@ -269,16 +267,16 @@ pub record CanFreeze (p : Parts) (n : ℕ) (writer : List ℕ) : Type 0 where
 abbrev pub CanEdit : Parts → ℕ → Edit → Type 0
 CanEdit p m (edits.Create t) = CanCreate p t
 CanEdit p m (edits.Enable name valid history) = CanEnable p name
-CanEdit p m (edits.Append n entries) = CanAppend p n (map entry_of entries.items)
+CanEdit p m (edits.Append n entries) = CanAppend p n (map entry_of entries)
 CanEdit p m (edits.Save n name) = CanSave p n name
 CanEdit p m (edits.Bear n at name) = CanBear p m n at name
 CanEdit p m (edits.Restore n making) = CanRestore p n making
 CanEdit p m (edits.Remove n) = CanRemove p n
 CanEdit p m (edits.Keep n) = CanKeep p n
-CanEdit p m (edits.Replay n entries) = CanReplay p n (map entry_of entries.items)
-CanEdit p m (edits.Gain n entries) = CanGain p n (map entry_of entries.items)
+CanEdit p m (edits.Replay n entries) = CanReplay p n (map entry_of entries)
+CanEdit p m (edits.Gain n entries) = CanGain p n (map entry_of entries)
 CanEdit p m (edits.Rebase n emptied) = CanRebase p n emptied
-CanEdit p m (edits.Settle n marks) = CanSettle p n marks.items
+CanEdit p m (edits.Settle n marks) = CanSettle p n marks
 CanEdit p m (edits.Lock n mode user cells) = CanLock p n user cells
 CanEdit p m (edits.Unlock makings) = Unit {0}
 CanEdit p m (edits.Freeze n mode writer) = CanFreeze p n writer
@@ -345,7 +343,7 @@ pub record DraftsBy (work : ℕ) (rs : List Stored) (m : ℕ) (es : List Edit) (
   pub counted : (es ≡ [] → ⊥) → WorksOn (parts_of rs) (parts_of (applied changes rs)) work
   pub nothing : es ≡ [] → changes ≡ []
   pub few : list_all is_fork es ≡ true → FewChanges rs (6 * length es) changes
-  pub spared : (n : ℕ) (entries : Vec NewEntry Global) → es ≡ edits.Append n entries ∷ [] → IsSpare (parts_of rs) n → (parts_of (applied changes rs)).versions ≡ (parts_of rs).versions
+  pub spared : (n : ℕ) (entries : List NewEntry) → es ≡ edits.Append n entries ∷ [] → IsSpare (parts_of rs) n → (parts_of (applied changes rs)).versions ≡ (parts_of rs).versions
   pub turned : list_all leaves_turns es ≡ true → (parts_of (applied changes rs)).turns ≡ (parts_of rs).turns
 
 -- and with the work of a line

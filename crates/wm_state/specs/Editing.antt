@@ -53,6 +53,19 @@ entry_of e = record {
   user = e.user;
 }
 
+-- an entry of a list as one that is to come
+abbrev pub new_entry : Entry → NewEntry
+new_entry e = record {
+  table = e.table;
+  key = e.key;
+  period = record { from = e.from; till = e.till };
+  row = option_map (λ (row : Row). row.values) e.row;
+  stamp = e.stamp;
+  kind = e.kind;
+  moment = e.moment;
+  user = e.user;
+}
+
 -- the entries are in the workspace of this number, and their stamps are given
 abbrev pub written_all : ℕ → List Entry → Durable → Durable
 written_all n es s = record s { spaces = with_space n (with_entries es) s.spaces; next_stamp = s.next_stamp + length es }
@@ -226,6 +239,10 @@ rebased_so n emptied s = unwrap_or (option_map (rebased_in n emptied s) (parent_
 abbrev pub settled_by : ℕ → NewMark → Settled
 settled_by place m = record { table = m.table; key = m.key; from = m.period.from; till = m.period.till; position = m.position; place = place }
 
+-- a mark of a workspace as one that is to come, without its place
+abbrev pub new_mark : Settled → NewMark
+new_mark m = record { table = m.table; key = m.key; period = record { from = m.from; till = m.till }; position = m.position }
+
 -- a workspace with marks more, at the place that was given there last
 abbrev pub with_marks : List NewMark → Workspace → Workspace
 with_marks ms w = record w { settled = w.settled ++ map (settled_by (w.next_place - 1)) ms }
@@ -299,16 +316,16 @@ enable_named how s t = record s { tables = enabled t.number how s.tables }
 abbrev pub edited : ℕ → Edit → Durable → Durable
 edited m (edits.Create t) s = record s { tables = s.tables ++ t ∷ [] }
 edited m (edits.Enable name valid history) s = unwrap_or (option_map (enable_named (record { valid = valid; history = history }) s) (table_named name s.tables)) s
-edited m (edits.Append n entries) s = written_all n (map entry_of entries.items) s
+edited m (edits.Append n entries) s = written_all n (map entry_of entries) s
 edited m (edits.Save n name) s = unwrap_or (option_and_then (save_in m name s) (workspace_of s.spaces n)) s
 edited m (edits.Bear n at name) s = unwrap_or (option_and_then (bear_in m (stand_of at) name s) (workspace_of s.spaces n)) s
 edited m (edits.Restore n making) s = unwrap_or (option_map (restored_in n s) (savepoint_made making (savepoints_of s.spaces n))) s
 edited m (edits.Remove n) s = record s { spaces = without n s.spaces; locks = unlocked_of n s.locks }
 edited m (edits.Keep n) s = kept_in m n s
-edited m (edits.Replay n entries) s = replayed_in n (map entry_of entries.items) s
-edited m (edits.Gain n entries) s = gained_in n (map entry_of entries.items) s
+edited m (edits.Replay n entries) s = replayed_in n (map entry_of entries) s
+edited m (edits.Gain n entries) s = gained_in n (map entry_of entries) s
 edited m (edits.Rebase n emptied) s = rebased_so n emptied s
-edited m (edits.Settle n marks) s = settled_in n marks.items s
+edited m (edits.Settle n marks) s = settled_in n marks s
 edited m (edits.Lock n mode user cells) s = locked_in n mode user cells s
 edited m (edits.Unlock makings) s = unlocked makings s
 edited m (edits.Freeze n mode writer) s = frozen_in n mode writer s

@@ -21,7 +21,7 @@ is_early date e = nat_le e.moment date
 abbrev pub stood_on : ℕ → Workspace → List Entry
 stood_on date w = w.lists.at_birth ++ filter (is_early date) w.lists.log
 
--- the first of savepoints, by making, that was made on a date or later: the one at the least place, and of these the one made first
+-- the first of savepoints, by making, whose place was made on a date or later: the one at the least place, and of these the one made first
 abbrev pub sooner_saved : SavepointFields → Option SavepointFields → Option SavepointFields
 sooner_saved k None = Some k
 sooner_saved k (Some l) = if nat_lt l.place k.place then Some l else Some k
@@ -36,8 +36,8 @@ making_from date ks = option_map (λ (k : SavepointFields). k.making) (first_fro
 
 -- ---- where one stands
 
--- what a session reads of a table: on a date a table with history as it stood there, and another as it was at the first savepoint that
--- was made then or later, or is at what is newest where there is none
+-- what a session reads of a table: on a date a table with history as it stood there, and another as it was at the first savepoint whose
+-- place was made then or later, or is at what is newest where there is none
 abbrev pub seen_from : Workspace → Stand → Table → List Entry
 seen_from w Latest t = read_at w None
 seen_from w (At making) t = read_at w (Some making)

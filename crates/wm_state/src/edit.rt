@@ -42,6 +42,76 @@ pub struct NewLock {
     pub period: Period,
 }
 
+/// Entries in their order.
+#[derive(Drop)]
+pub struct Entries {
+    list: Vec<NewEntry>,
+}
+
+impl Model for Entries {
+    ghost use Rattle.std.specs.Prelude.{List};
+    ghost use Rattle.wm_state.specs.declared.edit.NewEntry.{NewEntry as OneEntry};
+
+    ghost Value = { List OneEntry };
+
+    ghost view = { λ s. s.list.items };
+}
+
+impl Entries {
+    pub fn from_vec(list: Vec<NewEntry>) -> Entries
+        ensures { result ≡ list.items }
+    {
+        Entries { list }
+    }
+
+    pub fn into_vec(self) -> Vec<NewEntry>
+        ensures { result.items ≡ self }
+    {
+        self.list
+    }
+
+    pub fn as_slice(&self) -> &[NewEntry]
+        ensures { result.now ≡ self.now }
+    {
+        self.list.as_slice()
+    }
+
+    pub fn len(&self) -> usize
+        ensures { result ≡ length self.now }
+    {
+        self.list.len()
+    }
+}
+
+/// Marks in their order.
+#[derive(Drop)]
+pub struct Marks {
+    list: Vec<NewMark>,
+}
+
+impl Model for Marks {
+    ghost use Rattle.std.specs.Prelude.{List};
+    ghost use Rattle.wm_state.specs.declared.edit.NewMark.{NewMark as OneMark};
+
+    ghost Value = { List OneMark };
+
+    ghost view = { λ s. s.list.items };
+}
+
+impl Marks {
+    pub fn from_vec(list: Vec<NewMark>) -> Marks
+        ensures { result ≡ list.items }
+    {
+        Marks { list }
+    }
+
+    pub fn into_vec(self) -> Vec<NewMark>
+        ensures { result.items ≡ self }
+    {
+        self.list
+    }
+}
+
 /// Cells that are locked, a lock for each.
 #[derive(Drop)]
 pub struct Cells {
@@ -119,21 +189,22 @@ pub enum Edit {
     /// Entries of one table come into a workspace, by key.
     Append {
         space: u32,
-        entries: Vec<NewEntry>,
+        entries: Entries,
     },
     /// What is newest in a workspace is kept under a name.
     Save {
         space: u32,
         name: Name,
     },
-    /// A workspace is born in another at what is newest there, or at the savepoint of a making, with a savepoint that is
-    /// made for it.
+    /// A workspace is born in another at what is newest there, or at the savepoint of a making, with a savepoint that
+    /// is made for it.
     Bear {
         parent: u32,
         at: Option<u64>,
         name: Name,
     },
-    /// A workspace is again as it was at the savepoint of a making: what was written behind it goes, and so do later savepoints.
+    /// A workspace is again as it was at the savepoint of a making: what was written behind it goes, and so do later
+    /// savepoints.
     Restore {
         space: u32,
         making: u64,
@@ -150,12 +221,12 @@ pub enum Edit {
     /// one cell.
     Replay {
         space: u32,
-        entries: Vec<NewEntry>,
+        entries: Entries,
     },
     /// Entries that were made before come into the log of a workspace alone.
     Gain {
         space: u32,
-        entries: Vec<NewEntry>,
+        entries: Entries,
     },
     /// A workspace stands on its parent as that is now; what it has of its own stays, or goes where it was merged.
     Rebase {
@@ -165,7 +236,7 @@ pub enum Edit {
     /// Conflicts of a workspace are settled: by table and key, no two on one cell.
     Settle {
         space: u32,
-        marks: Vec<NewMark>,
+        marks: Marks,
     },
     /// Cells are locked in a workspace by a user, a lock for each.
     Lock {

@@ -3,8 +3,6 @@ use Rattle.std.proofs.Common.{◌≡◌, ℕ, ◌+◌, nat_lt, true, List, [], �
 use Rattle.std.proofs.lemmas.Bool.{ne_eqb, and_from, lt-ltb, true≢false}
 use Rattle.std.specs.List.{filter, list_all}
 use Rattle.std.specs.Option.{option_map, unwrap_or}
-use Rattle.std.specs.declared.alloc.Global.{Global}
-use Rattle.std.specs.declared.vec.Vec.{Vec}
 use Rattle.wm_graph.specs.Parts.{Parts, parts_of, space_of}
 use Rattle.wm_graph.specs.Rules.{keep_rules}
 use Rattle.wm_spec.specs.Records.{AreChanges, ids_differ, record_at}
@@ -111,7 +109,7 @@ drafts_restored rs m work n making c a x counters_id space_id id ids rules can_w
   turned = λ left. absurd (true≢false (sym left));
 }
   where
-    no_append : (i : ℕ) (entries : Vec NewEntry Global) → edits.Restore n making ∷ [] ≡ edits.Append i entries ∷ [] → ⊥
+    no_append : (i : ℕ) (entries : List NewEntry) → edits.Restore n making ∷ [] ≡ edits.Append i entries ∷ [] → ⊥
     no_append i entries e = cc
 
     d : Counters

@@ -2,8 +2,6 @@
 use Rattle.std.proofs.Common.{◌≡◌, ℕ, ◌+◌, true, List, [], ◌∷◌, Some, is_some, refl, sym, ap}
 use Rattle.std.proofs.lemmas.Bool.{true≢false}
 use Rattle.std.specs.List.{list_all}
-use Rattle.std.specs.declared.alloc.Global.{Global}
-use Rattle.std.specs.declared.vec.Vec.{Vec}
 use Rattle.wm_graph.specs.Parts.{parts_of}
 use Rattle.wm_graph.specs.Rules.{keep_rules}
 use Rattle.wm_spec.specs.Records.{AreChanges, ids_differ, record_at}
@@ -51,7 +49,7 @@ drafts_removed rs m work n c counters_id ids rules can_work one can there sorted
   turned = λ left. absurd (true≢false (sym left));
 }
   where
-    no_append : (i : ℕ) (entries : Vec NewEntry Global) → edits.Remove n ∷ [] ≡ edits.Append i entries ∷ [] → ⊥
+    no_append : (i : ℕ) (entries : List NewEntry) → edits.Remove n ∷ [] ≡ edits.Append i entries ∷ [] → ⊥
     no_append i entries e = cc
 
     d : Counters

@@ -4,8 +4,6 @@ use Rattle.std.proofs.lemmas.Bool.{ne_eqb, and_from, and_parts, lt-ltb, true≢f
 use Rattle.std.proofs.lemmas.Option.{same_Some}
 use Rattle.std.specs.List.{list_all}
 use Rattle.std.specs.Option.{option_map_or}
-use Rattle.std.specs.declared.alloc.Global.{Global}
-use Rattle.std.specs.declared.vec.Vec.{Vec}
 use Rattle.wm_graph.specs.Parts.{Parts, parts_of, space_of}
 use Rattle.wm_graph.specs.Rules.{keep_rules}
 use Rattle.wm_spec.specs.Lists.{Entry}
@@ -47,8 +45,8 @@ use Rattle.wm_written.proofs.WrittenKept.{kept_write}
 -- ---- entries
 
 -- the entries of an edit
-abbrev pub entries_in : Vec NewEntry Global → List Entry
-entries_in entries = map entry_of entries.items
+abbrev pub entries_in : List NewEntry → List Entry
+entries_in entries = map entry_of entries
 
 -- what is asked of them, told of one record of counters and of a workspace
 pub record Appends (p : Parts) (n : ℕ) (a : Space) (c : Counters) (table : ℕ) (es : List Entry) : Type 0 where
@@ -78,7 +76,7 @@ log_room p n table a c es v =
     in_room (a.log_length + length es) (ap (λ (b : Space). nat_lt counter_limit (b.log_length + length es)) (same_Some a v.can.space (sym v.there ∙ v.can.there)) ∙ v.can.short)
 
 -- what the counters of a state are once entries are written
-pub counts_on : (s : Durable) (m work n : ℕ) (c d : Counters) (entries : Vec NewEntry Global) → CountsAs c s → d.next_stamp ≡ c.next_stamp + length (entries_in entries) → d.last_moment ≡ m → d.limit ≡ c.limit → d.work ≡ c.work + work
+pub counts_on : (s : Durable) (m work n : ℕ) (c d : Counters) (entries : List NewEntry) → CountsAs c s → d.next_stamp ≡ c.next_stamp + length (entries_in entries) → d.last_moment ≡ m → d.limit ≡ c.limit → d.work ≡ c.work + work
     → (q : Parts) → q.counters ≡ d ∷ [] → CountersStand q (drafted_by work m (edits.Append n entries ∷ []) s)
 counts_on s m work n c d entries counts stamp moment limit more q one = record {
   counters = d;
@@ -168,7 +166,7 @@ may_write p m work table a c es rules can_work v leaf free = record {
 }
 
 -- the batch makes of the records what the entries make of each state
-pub drafts_written : (rs : List Stored) (m work table : ℕ) (entries : Vec NewEntry Global) (a : Space) (c : Counters) (counters_id space_id id : ℕ) (ids : List ℕ) (drawn traced : List PieceRecord) → keep_rules (parts_of rs) ≡ true
+pub drafts_written : (rs : List Stored) (m work table : ℕ) (entries : List NewEntry) (a : Space) (c : Counters) (counters_id space_id id : ℕ) (ids : List ℕ) (drawn traced : List PieceRecord) → keep_rules (parts_of rs) ≡ true
     → CanWork (parts_of rs) m work → Appends (parts_of rs) a.number a c table (entries_in entries) → Places rs counters_id space_id id c a → IsLeaf (latest (parts_of rs) a.number) (newest_first (parts_of rs).versions)
     → IsFree (parts_of rs) (latest (parts_of rs) a.number) → Redrawn rs (latest (parts_of rs) a.number) a (entries_in entries) ids drawn traced
     → DraftsBy work rs m (edits.Append a.number entries ∷ [])

@@ -1,8 +1,6 @@
 -- What the batch that writes entries into a version more of a workspace makes of the records.
 use Rattle.std.proofs.Common.{◌≡◌, ℕ, ◌+◌, ◌≤◌, true, List, [], ◌∷◌, map, length, refl, sym, subst, arith, le_refl}
 use Rattle.std.proofs.lemmas.Bool.{true≢false}
-use Rattle.std.specs.declared.alloc.Global.{Global}
-use Rattle.std.specs.declared.vec.Vec.{Vec}
 use Rattle.wm_graph.specs.Parts.{Parts, parts_of}
 use Rattle.wm_graph.specs.Rules.{keep_rules}
 use Rattle.wm_spec.specs.Lists.{Entry}
@@ -66,7 +64,7 @@ may_write_more p m work table a c es rules can_work v = record {
 }
 
 -- the batch makes of the records what the entries make of each state, where the newest version of the workspace is not spare
-pub drafts_written_new : (rs : List Stored) (m work table : ℕ) (entries : Vec NewEntry Global) (a : Space) (c : Counters) (counters_id space_id id : ℕ) (ids : List ℕ) (drawn traced : List PieceRecord) → keep_rules (parts_of rs) ≡ true
+pub drafts_written_new : (rs : List Stored) (m work table : ℕ) (entries : List NewEntry) (a : Space) (c : Counters) (counters_id space_id id : ℕ) (ids : List ℕ) (drawn traced : List PieceRecord) → keep_rules (parts_of rs) ≡ true
     → CanWork (parts_of rs) m work → Appends (parts_of rs) a.number a c table (entries_in entries) → Places rs counters_id space_id id c a → (IsSpare (parts_of rs) a.number → ⊥)
     → Redrawn rs c.next_version a (entries_in entries) ids drawn traced
     → DraftsBy work rs m (edits.Append a.number entries ∷ [])
@@ -124,5 +122,5 @@ drafts_written_new rs m work table entries a c counters_id space_id id ids drawn
     next n = omega arith
 
     -- there is one edit
-    one_number : (n : ℕ) (more : Vec NewEntry Global) → edits.Append a.number entries ∷ [] ≡ edits.Append n more ∷ [] → n ≡ a.number
+    one_number : (n : ℕ) (more : List NewEntry) → edits.Append a.number entries ∷ [] ≡ edits.Append n more ∷ [] → n ≡ a.number
     one_number n more same = cc

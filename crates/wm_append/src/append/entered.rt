@@ -10,7 +10,7 @@ ghost use Rattle.wm_state.specs.Touching.{marks_of};
 use std::alloc::Global;
 use wm_base::{Key, Kind, Memory, Period};
 use wm_spec::record::{Boxed, CellRange, Hist, PieceRecord, Record, RowRecord};
-use wm_state::edit::NewEntry;
+use wm_state::edit::{Entries, NewEntry};
 
 /// Where entries come: the version that is to have them, the number of its workspace, the last place that was given there,
 /// and whether their table keeps its history.
@@ -165,13 +165,13 @@ pub fn enter(
     alloc: Global,
     target: Target,
     position: u64,
-    entries: Vec<NewEntry>,
+    entries: Entries,
 ) -> Result<Entered, Memory>
-    requires { position + length entries.items < 2 ^ 64 }
-    ensures rows { IfOk result (λ entered. entered.rows.items ≡ map records.Row (rows_in (map entry_of entries.items))) }
-    ensures pieces { IfOk result (λ entered. entered.pieces.items ≡ pieces_of target.version (map entry_of entries.items)) }
-    ensures marks { IfOk result (λ entered. entered.marks.items ≡ marks_of target.place position (map entry_of entries.items)) }
-    ensures hists { IfOk result (λ entered. entered.hists.items ≡ map records.Hist (hists_if target.history target.space position (map entry_of entries.items))) }
+    requires { position + length entries < 2 ^ 64 }
+    ensures rows { IfOk result (λ entered. entered.rows.items ≡ map records.Row (rows_in (map entry_of entries))) }
+    ensures pieces { IfOk result (λ entered. entered.pieces.items ≡ pieces_of target.version (map entry_of entries)) }
+    ensures marks { IfOk result (λ entered. entered.marks.items ≡ marks_of target.place position (map entry_of entries)) }
+    ensures hists { IfOk result (λ entered. entered.hists.items ≡ map records.Hist (hists_if target.history target.space position (map entry_of entries))) }
 {
     let mut entered = Entered {
         rows: Vec::new(alloc),
@@ -180,7 +180,7 @@ pub fn enter(
         hists: Vec::new(alloc),
     };
     let mut position = position;
-    for entry in entries {
+    for entry in entries.into_vec() {
         add_entry(alloc, &mut entered, target, position, entry)?;
         position += 1;
     }

@@ -16,7 +16,7 @@ use std::alloc::Global;
 use wm_base::Memory;
 use wm_image::Image;
 use wm_spec::record::{PieceRecord, Record, Space, Trace};
-use wm_state::edit::NewEntry;
+use wm_state::edit::Entries;
 
 /// The ids of the records that go, and the records that come.
 #[derive(Drop)]
@@ -102,19 +102,19 @@ pub fn draw_entries(
     image: &Image,
     space: &Space,
     version: u64,
-    entries: Vec<NewEntry>,
+    entries: Entries,
 ) -> Result<Made, Memory>
     requires rules { keep_rules (parts_of image.now) ≡ true }
     requires there { space_of (parts_of image.now).spaces space.now.number ≡ Some space.now }
-    requires can { CanAppend (parts_of image.now) space.now.number (map entry_of entries.items) }
-    ensures { IfOk result (λ made. AreMade image.now space.now version (map entry_of entries.items) made.dropped.items made.news.items) }
+    requires can { CanAppend (parts_of image.now) space.now.number (map entry_of entries) }
+    ensures { IfOk result (λ made. AreMade image.now space.now version (map entry_of entries) made.dropped.items made.news.items) }
 {
     let place = space.next_place - 1;
     let target = Target {
         version,
         space: space.number,
         place,
-        history: has_history(image, entries[0].table),
+        history: has_history(image, entries.as_slice()[0].table),
     };
     let entered = enter(alloc, target, space.log_length, entries)?;
     let Entered {

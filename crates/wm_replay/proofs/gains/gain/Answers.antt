@@ -1,6 +1,5 @@
 use Rattle.std.proofs.Common.{◌-◌, ◌++◌, List, map, refl, subst, sym, ap, ◌∙◌}
 use Rattle.wm_append.proofs.TwoLayers.{touches_apart}
-use Rattle.wm_append.proofs.Written.{counted_as}
 use Rattle.wm_append.specs.Layers.{touch_in}
 use Rattle.wm_append.specs.Redraw.{AreNewsOf, IsRedrawn}
 use Rattle.wm_graph.specs.Parts.{parts_of}
@@ -30,7 +29,7 @@ redraw-requires-clause-news c =
     let k = known c.args.image.now c.args.space c.space.result c.unwrap-old.result c.requires.rules c.unwrap-old.ensures c.space.ensures in
     subst (λ n. AreNewsOf n c.in_ok-entered.entered.marks.items) (sym c.from.ensures)
     (subst (AreNewsOf place) (sym (c.in_ok-entered.ensures.marks place k.last))
-    (marks_new (parts_of c.args.image.now).tables place c.unwrap-old.result.now.log_length (map entry_of c.args.entries.items) c.requires.can.old.real c.requires.can.sorted))
+    (marks_new (parts_of c.args.image.now).tables place c.unwrap-old.result.now.log_length (map entry_of c.args.entries) c.requires.can.old.real c.requires.can.sorted))
 
 pub written-requires-clause-there : goal.written-requires-clause-there
 written-requires-clause-there c =
@@ -44,7 +43,7 @@ returns-clause-drafts c =
     let dropped = c.in_ok-touches.touches.dropped.items in
     let k = known c.args.image.now c.args.space c.space.result c.unwrap-old.result c.requires.rules c.unwrap-old.ensures c.space.ensures in
     drafts_gaining c.args.image.now c.args.moment c.args.work c.args.space place c.in_ok-id.id c.len-count.result c.args.entries c.unwrap-old.result.now c.in_ok-longer.longer c.counters.result c.moved-counters.result c.new-front.result c.in_ok-changes.changes drawn dropped
-    c.in_ok-entered.entered.hists.items c.push_traced.new.news.items c.requires.rules c.requires.work c.requires.can k.found c.counters.ensures c.in_ok-id.ensures.above k.last c.moved-counters.ensures (counted_as c.args.entries c.len-count.result c.len-count.ensures)
+    c.in_ok-entered.entered.hists.items c.push_traced.new.news.items c.requires.rules c.requires.work c.requires.can k.found c.counters.ensures c.in_ok-id.ensures.above k.last c.moved-counters.ensures c.len-count.ensures
     c.in_ok-longer.ensures c.new-front.ensures
     (subst (λ (marks : List PieceRecord). IsRedrawn (touch_in c.args.space) c.args.image.now marks dropped drawn) (c.in_ok-entered.ensures.marks place k.last) c.in_ok-touches.ensures.redrawn)
     (record {

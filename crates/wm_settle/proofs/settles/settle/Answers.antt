@@ -26,7 +26,7 @@ pub redraw-requires-clause-news : goal.redraw-requires-clause-news
 redraw-requires-clause-news c =
     let place = c.unwrap-found.result.now.next_place - 1 in
     subst (λ n. AreNewsOf n c.in_ok-left.left.items) (sym c.from.ensures)
-    (subst (AreNewsOf place) (sym c.in_ok-left.ensures) (left_news c.args.image.now c.law_of_order.ensures c.args.space place c.args.marks.items c.requires.can.cells c.requires.can.sorted c.requires.can.apart))
+    (subst (AreNewsOf place) (sym c.in_ok-left.ensures) (left_news c.args.image.now c.law_of_order.ensures c.args.space place c.args.marks c.requires.can.cells c.requires.can.sorted c.requires.can.apart))
 
 pub returns-clause-drafts : goal.returns-clause-drafts
 returns-clause-drafts c =
