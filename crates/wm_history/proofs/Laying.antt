@@ -69,8 +69,8 @@ put_more ss xs ys date old mid new first second = λ table each key t less.
     let both = and_parts (list_all on before) (list_all on after) (sym (list_all-append on before after) ∙ ap (list_all on) (sym (hists-append ss xs ys)) ∙ each) in
     second table both.1 key t less
     ∙ ap (option_or (dated_in after date c)) (first table both.0 key t less)
-    ∙ sym (option_or_assoc (dated_in after date c) (dated_in before date c) (held_at (laid_at old key) t))
-    ∙ ap (λ o. option_or o (held_at (laid_at old key) t)) (sym (dated_in-append before after date c) ∙ ap (λ zs. dated_in zs date c) (sym (hists-append ss xs ys)))
+    ∙ sym (option_or_assoc (dated_in after date c) (dated_in before date c) (laid_at old key t))
+    ∙ ap (λ o. option_or o (laid_at old key t)) (sym (dated_in-append before after date c) ∙ ap (λ zs. dated_in zs date c) (sym (hists-append ss xs ys)))
 
 -- the entry of the next id was put over them
 pub put_next : (ss : List Stored) (ids : List ℕ) (i id : ℕ) (date : ℕ) (old mid new : Laid) → i < length ids → id ≡ get_or ids i 0 → IsPutOver ss (take i ids) date old mid → IsPutOver ss (id ∷ []) date mid new
@@ -98,20 +98,20 @@ hists_one ss id x some = by_record (record_at ss id) some
 -- an id without an entry
 pub put_without : (ss : List Stored) (id date : ℕ) (laid : Laid) → option_and_then as_hist (record_at ss id) ≡ None → IsPutOver ss (id ∷ []) date laid laid
 put_without ss id date laid none = λ table each key t less.
-    ap (λ xs. option_or (dated_in xs date (record { table = table; key = key; time = t })) (held_at (laid_at laid key) t)) (sym (hists_none ss id none))
+    ap (λ xs. option_or (dated_in xs date (record { table = table; key = key; time = t })) (laid_at laid key t)) (sym (hists_none ss id none))
 
 -- what an entry says of a moment of a key
 says : ℕ → Hist → List Value → ℕ → Option Held
 says date x key t = then_some (nat_le x.moment date && (is_eq (key_order x.cells.key key) && (nat_le x.cells.from t && nat_lt t x.cells.till))) (hist_held x)
 
 put_one : (ss : List Stored) (id date : ℕ) (x : Hist) (old new : Laid) → option_and_then as_hist (record_at ss id) ≡ Some x
-    → ((key : List Value) (t : ℕ) → t < END → held_at (laid_at new key) t ≡ option_or (says date x key t) (held_at (laid_at old key) t)) → IsPutOver ss (id ∷ []) date old new
+    → ((key : List Value) (t : ℕ) → t < END → laid_at new key t ≡ option_or (says date x key t) (laid_at old key t)) → IsPutOver ss (id ∷ []) date old new
 unfolding says
 put_one ss id date x old new some step = λ table each key t less.
     let on = λ (y : Hist). y.cells.table == table in
     let first = and_parts (x.cells.table == table) true (sym (ap (list_all on) (hists_one ss id x some)) ∙ each) in
     step key t less
-    ∙ ap (λ o. option_or o (held_at (laid_at old key) t))
+    ∙ ap (λ o. option_or o (laid_at old key t))
     (ap (λ b. then_some (nat_le x.moment date && ((b && is_eq (key_order x.cells.key key)) && (nat_le x.cells.from t && nat_lt t x.cells.till))) (hist_held x)) (sym first.0)
     ∙ ap (λ ys. dated_in ys date (record { table = table; key = key; time = t })) (sym (hists_one ss id x some)))
 
@@ -119,14 +119,14 @@ put_one ss id date x old new some step = λ table each key t less.
 pub put_late : (ss : List Stored) (id date : ℕ) (x : Hist) (laid : Laid) → option_and_then as_hist (record_at ss id) ≡ Some x → nat_le x.moment date ≡ false → IsPutOver ss (id ∷ []) date laid laid
 unfolding says
 put_late ss id date x laid some late = put_one ss id date x laid laid some (λ key t less.
-    ap (λ b. option_or (then_some (b && (is_eq (key_order x.cells.key key) && (nat_le x.cells.from t && nat_lt t x.cells.till))) (hist_held x)) (held_at (laid_at laid key) t)) (sym late))
+    ap (λ b. option_or (then_some (b && (is_eq (key_order x.cells.key key) && (nat_le x.cells.from t && nat_lt t x.cells.till))) (hist_held x)) (laid_at laid key t)) (sym late))
 
 -- one that covers no moment
 pub put_nowhere : (ss : List Stored) (id date : ℕ) (x : Hist) (laid : Laid) → option_and_then as_hist (record_at ss id) ≡ Some x → ((t : ℕ) → t < END → false ≡ (nat_le x.cells.from t && nat_lt t x.cells.till))
     → IsPutOver ss (id ∷ []) date laid laid
 unfolding says
 put_nowhere ss id date x laid some none = put_one ss id date x laid laid some (λ key t less.
-    ap (λ b. option_or (then_some b (hist_held x)) (held_at (laid_at laid key) t)) (by_test (nat_le x.moment date) (is_eq (key_order x.cells.key key)) (nat_le x.cells.from t && nat_lt t x.cells.till) (none t less)))
+    ap (λ b. option_or (then_some b (hist_held x)) (laid_at laid key t)) (by_test (nat_le x.moment date) (is_eq (key_order x.cells.key key)) (nat_le x.cells.from t && nat_lt t x.cells.till) (none t less)))
   where
     by_test : (a b d : Bool) → false ≡ d → false ≡ (a && (b && d))
     by_test true true d off = off
@@ -137,22 +137,22 @@ put_nowhere ss id date x laid some none = put_one ss id date x laid laid some (�
 pub put_piece : (ss : List Stored) (id date : ℕ) (x : Hist) (piece : Piece) (period : Span) (old new : Laid) → option_and_then as_hist (record_at ss id) ≡ Some x → nat_le x.moment date ≡ true
     → ((t : ℕ) → t < END → covers period t ≡ (nat_le x.cells.from t && nat_lt t x.cells.till)) → piece.period ≡ period → held piece ≡ hist_held x
     → ((key : List Value) (t : ℕ)
-    → held_at (laid_at new key) t
-    ≡ (if is_eq (key_order x.cells.key key) then option_or (then_some (covers piece.period t) (held piece)) (held_at (laid_at old x.cells.key) t) else held_at (laid_at old key) t)) → IsPutOver ss (id ∷ []) date old new
+    → laid_at new key t
+    ≡ (if is_eq (key_order x.cells.key key) then option_or (then_some (covers piece.period t) (held piece)) (laid_at old x.cells.key t) else laid_at old key t)) → IsPutOver ss (id ∷ []) date old new
 unfolding says
 put_piece ss id date x piece period old new some early covered over same put = put_one ss id date x old new some (λ key t less.
     put key t
     ∙ by_key key t (is_eq (key_order x.cells.key key)) refl (ap (λ (s : Span). covers s t) over ∙ covered t less)
-    ∙ ap (λ b. option_or (then_some (b && (is_eq (key_order x.cells.key key) && (nat_le x.cells.from t && nat_lt t x.cells.till))) (hist_held x)) (held_at (laid_at old key) t)) (sym early))
+    ∙ ap (λ b. option_or (then_some (b && (is_eq (key_order x.cells.key key) && (nat_le x.cells.from t && nat_lt t x.cells.till))) (hist_held x)) (laid_at old key t)) (sym early))
   where
     by_key : (key : List Value) (t : ℕ) (b : Bool) → is_eq (key_order x.cells.key key) ≡ b → covers piece.period t ≡ (nat_le x.cells.from t && nat_lt t x.cells.till)
-        → (if b then option_or (then_some (covers piece.period t) (held piece)) (held_at (laid_at old x.cells.key) t) else held_at (laid_at old key) t)
-        ≡ option_or (then_some (true && (b && (nat_le x.cells.from t && nat_lt t x.cells.till))) (hist_held x)) (held_at (laid_at old key) t)
+        → (if b then option_or (then_some (covers piece.period t) (held piece)) (laid_at old x.cells.key t) else laid_at old key t)
+        ≡ option_or (then_some (true && (b && (nat_le x.cells.from t && nat_lt t x.cells.till))) (hist_held x)) (laid_at old key t)
     by_key key t false away when = refl
     by_key key t true tie when =
-        ap (λ d. option_or (then_some d (held piece)) (held_at (laid_at old x.cells.key) t)) when
-        ∙ ap (λ h. option_or (then_some (nat_le x.cells.from t && nat_lt t x.cells.till) h) (held_at (laid_at old x.cells.key) t)) same
-        ∙ ap (λ (k : List Value). option_or (then_some (nat_le x.cells.from t && nat_lt t x.cells.till) (hist_held x)) (held_at (laid_at old k) t)) (key_same x.cells.key key tie)
+        ap (λ d. option_or (then_some d (held piece)) (laid_at old x.cells.key t)) when
+        ∙ ap (λ h. option_or (then_some (nat_le x.cells.from t && nat_lt t x.cells.till) h) (laid_at old x.cells.key t)) same
+        ∙ ap (λ (k : List Value). option_or (then_some (nat_le x.cells.from t && nat_lt t x.cells.till) (hist_held x)) (laid_at old k t)) (key_same x.cells.key key tie)
 
 -- ---- what a version holds, key by key
 
@@ -161,14 +161,14 @@ pub record HeldTo (p : Parts) (version table : ℕ) (all rest : KeyVersions) (la
   pub passed : List (List Value)
   pub parted : passed ++ entry_keys rest ≡ entry_keys all
   pub found : All (λ e. lookup (is_at (key_order e.0)) all ≡ Some e.1) rest
-  pub holds : (key : List Value) (t : ℕ) → t < END → held_at (laid_at laid key) t ≡ (if is_key_in key passed then seen p version (record { table = table; key = key; time = t }) else None)
+  pub holds : (key : List Value) (t : ℕ) → t < END → laid_at laid key t ≡ (if is_key_in key passed then seen p version (record { table = table; key = key; time = t }) else None)
 
 pub held_first : (p : Parts) (version table : ℕ) (all rest : KeyVersions) (laid : Laid) → rest ≡ all → All (λ e. lookup (is_at (key_order e.0)) all ≡ Some e.1) all → laid ≡ [] → HeldTo p version table all rest laid
 held_first p version table all rest laid whole found none = record {
   passed = [];
   parted = ap entry_keys whole;
   found = subst (All (λ e. lookup (is_at (key_order e.0)) all ≡ Some e.1)) (sym whole) found;
-  holds = λ key t less. ap (λ (l : Laid). held_at (laid_at l key) t) none;
+  holds = λ key t less. ap (λ (l : Laid). laid_at l key t) none;
 }
 
 -- the versions of the next key
@@ -192,13 +192,13 @@ seen_of ss version table all key t keys =
 pub held_next : (ss : List Stored) (version table : ℕ) (all left rest : KeyVersions) (e : List Value × Vec Versioned Global) (es : List Versioned) (pieces : List Piece) (old new : Laid) → left ≡ e ∷ rest
     → HeldTo (parts_of ss) version table all left old → AreKeysOf ss table all → es ≡ e.1.items
     → ((t : ℕ) → t < END → held_at pieces t ≡ along (λ v. first_held (kind_at as_piece ss (ids_under es v)) v t) (path_in (newest_first (parts_of ss).versions) version))
-    → ((k : List Value) → laid_at new k ≡ (if is_eq (key_order e.0 k) then pieces else laid_at old k)) → HeldTo (parts_of ss) version table all rest new
+    → ((k : List Value) (t : ℕ) → laid_at new k t ≡ (if is_eq (key_order e.0 k) then held_at pieces t else laid_at old k t)) → HeldTo (parts_of ss) version table all rest new
 held_next ss version table all left rest e es pieces old new is so keys same laid put = record {
   passed = so.passed ++ e.0 ∷ [];
   parted = append_assoc so.passed (e.0 ∷ []) (entry_keys rest) ∙ ap (λ (l : KeyVersions). so.passed ++ entry_keys l) (sym is) ∙ so.parted;
   found = All-tail (λ e. lookup (is_at (key_order e.0)) all ≡ Some e.1) e rest (subst (All (λ e. lookup (is_at (key_order e.0)) all ≡ Some e.1)) is so.found);
   holds = λ key t less.
-      ap (λ (ps : List Piece). held_at ps t) (put key)
+      put key t
       ∙ by_key key t less (is_eq (key_order e.0 key)) refl
       ∙ ap (λ b. if b then seen (parts_of ss) version (record { table = table; key = key; time = t }) else None) (sym (list_any-append (λ k. is_eq (key_order k key)) so.passed (e.0 ∷ [])));
 }
@@ -219,7 +219,7 @@ held_next ss version table all left rest e es pieces old new is so keys same lai
     or_false false o = refl
 
     by_key : (key : List Value) (t : ℕ) → t < END → (b : Bool) → is_eq (key_order e.0 key) ≡ b
-        → held_at (if b then pieces else laid_at old key) t ≡ (if is_key_in key so.passed || (b || false) then seen (parts_of ss) version (record { table = table; key = key; time = t }) else None)
+        → (if b then held_at pieces t else laid_at old key t) ≡ (if is_key_in key so.passed || (b || false) then seen (parts_of ss) version (record { table = table; key = key; time = t }) else None)
     by_key key t less true tie =
         own t less
         ∙ ap (λ (k : List Value). seen (parts_of ss) version (record { table = table; key = k; time = t })) (key_same e.0 key tie)
@@ -255,7 +255,7 @@ held_all ss version table all laid keys so = λ key t less.
 -- LIVE was born with nothing
 pub born_nothing : (p : Parts) (a : Space) (table : ℕ) (laid : Laid) → a.number ≡ 0 → laid ≡ [] → HoldBy laid table (born_with p a)
 born_nothing p a table laid live none = λ key t less.
-    ap (λ (l : Laid). held_at (laid_at l key) t) none
+    ap (λ (l : Laid). laid_at l key t) none
     ∙ ap (λ b. if b then None else seen p a.birth_version (record { table = table; key = key; time = t })) (sym (eq-eqb a.number 0 live))
 
 -- each other workspace with what the version of its birth holds

@@ -1,15 +1,17 @@
 -- The rows of pieces by key, gathered key by key.
-use Rattle.std.proofs.Common.{◌≡◌, ℕ, ◌<◌, ◌≤◌, nat_lt, Bool, true, false, All, List, [], ◌∷◌, ◌++◌, Option, Some, None, unwrap_or, refl, sym, ap, ◌∙◌, arith}
+use Rattle.std.proofs.Common.{◌≡◌, ℕ, ◌<◌, ◌≤◌, nat_lt, Bool, true, false, All, List, [], ◌∷◌, ◌++◌, Option, Some, None, refl, sym, ap, ◌∙◌, arith}
 use Rattle.std.specs.BTreeMap.{is_at}
 use Rattle.std.specs.List.Sorted.{IsStrictlySortedBy}
 use Rattle.std.specs.Map.{lookup, keys_of as entry_keys}
+use Rattle.std.specs.Option.{option_and_then}
 use Rattle.wm_base.specs.Key.{key_order}
 use Rattle.wm_base.specs.Period.{Span}
 use Rattle.wm_base.specs.declared.instant.TheConstants.{END}
 use Rattle.wm_base.specs.declared.row.Row.{Row}
 use Rattle.wm_base.specs.declared.value.Value.{Value}
 use Rattle.wm_graph.specs.Parts.{Parts}
-use Rattle.wm_history.specs.Laid.{HasEnded, HoldBy, Laid}
+use Rattle.wm_history.specs.Laid.{HasEnded, HoldBy, Laid, layers_held}
+use Rattle.wm_history.specs.declared.layers.Layers.{Layers}
 use Rattle.wm_period.specs.Pieces.{Between, Held, held_at}
 use Rattle.wm_period.specs.declared.piece.Piece.{Piece}
 use Rattle.wm_spec.specs.Lists.{Cell}
@@ -26,13 +28,14 @@ pub listed_first : (p : Parts) (table : ℕ) (valid : Bool) (within : Span) (all
     → IsListedTo p table valid within all rest rows
 listed_first p table valid within all rest rows whole found none = λ f hold ended. gathered_first p f table valid within all rest rows whole found none
 
-pub listed_next : (p : Parts) (table : ℕ) (valid : Bool) (within : Span) (all left rest : Laid) (e : List Value × List Piece) (old new : List Row) → left ≡ e ∷ rest → IsListedTo p table valid within all left old
-    → Between 0 e.1 END → new ≡ old ++ shown_on p valid within (stretches_on e.1) → IsListedTo p table valid within all rest new
-listed_next p table valid within all left rest e old new is so order added = λ f hold ended.
+pub listed_next : (p : Parts) (table : ℕ) (valid : Bool) (within : Span) (all left rest : Laid) (e : List Value × Layers) (pieces : List Piece) (old new : List Row) → left ≡ e ∷ rest
+    → IsListedTo p table valid within all left old → Between 0 pieces END → ((t : ℕ) → held_at pieces t ≡ layers_held e.1 t) → new ≡ old ++ shown_on p valid within (stretches_on pieces)
+    → IsListedTo p table valid within all rest new
+listed_next p table valid within all left rest e pieces old new is so order laid added = λ f hold ended.
     gathered_on p f table valid within all left rest e old new is (so f hold ended)
-    (adds_rows_by p f table valid within e.0 e.1 old new
-    (are_rows_by f table e.0 e.1 order (λ t late. ended (record { table = table; key = e.0; time = t }) late)
-    (λ t less. ap (λ (o : Option (List Piece)). held_at (unwrap_or o []) t) (sym (next_found p f table valid within all left rest e old is (so f hold ended))) ∙ hold e.0 t less))
+    (adds_rows_by p f table valid within e.0 pieces old new
+    (are_rows_by f table e.0 pieces order (λ t late. ended (record { table = table; key = e.0; time = t }) late)
+    (λ t less. laid t ∙ ap (λ (o : Option Layers). option_and_then (λ (x : Layers). layers_held x t) o) (sym (next_found p f table valid within all left rest e old is (so f hold ended))) ∙ hold e.0 t less))
     added)
 
 pub listed_all : (p : Parts) (table : ℕ) (valid : Bool) (within : Span) (all : Laid) (rows : List Row) → IsStrictlySortedBy key_order (entry_keys all) → IsListedTo p table valid within all [] rows → (f : Cell → Option Held)
@@ -46,5 +49,5 @@ listed_all p table valid within all rows sorted so f hold ended = is_showing_by 
     above t end e = grind (arith, e)
 
     nothing : (k : List Value) (t : ℕ) → lookup (is_at (key_order k)) all ≡ None → (b : Bool) → nat_lt t END ≡ b → f (record { table = table; key = k; time = t }) ≡ None
-    nothing k t none true e = sym (hold k t (below t END e)) ∙ ap (λ (o : Option (List Piece)). held_at (unwrap_or o []) t) none
+    nothing k t none true e = sym (hold k t (below t END e)) ∙ ap (λ (o : Option Layers). option_and_then (λ (x : Layers). layers_held x t) o) none
     nothing k t none false e = ended (record { table = table; key = k; time = t }) (above t END e)

@@ -6,6 +6,7 @@ use Rattle.std.specs.List.{find, list_all}
 use Rattle.std.specs.List.Sorted.{IsStrictlySortedBy}
 use Rattle.std.specs.Option.{option_and_then, option_map_or}
 use Rattle.std.specs.Ordering.{nat_cmp}
+use Rattle.wm_base.proofs.Plain.{less_apart}
 use Rattle.wm_base.specs.declared.instant.TheConstants.{END}
 use Rattle.wm_graph.specs.Parts.{Parts, as_hist, parts_of, row_of, space_of, table_of}
 use Rattle.wm_graph.specs.Rules.{are_cells, differ, is_hist, is_short, keep_rules, same_position}
@@ -100,14 +101,11 @@ behind_first : (y : Hist) (xs : List Hist) → Follow (y ∷ xs) → Follow xs
 behind_first y [] order = tt
 behind_first y (z ∷ zs) order = order.1
 
-other_place : (m n : ℕ) → m < n → (m == n) ≡ false
-other_place m n less = grind (arith, less)
-
 -- each is found at its own position
 found_own : (front : List Hist) (x : Hist) (back : List Hist) → Follow (front ++ x ∷ back) → find (λ (y : Hist). y.position == x.position) (front ++ x ∷ back) ≡ Some x
 found_own [] x back order = ap (λ b. cond b (Some x) (find (λ (y : Hist). y.position == x.position) back)) (eq-eqb x.position x.position refl)
 found_own (y ∷ front) x back order =
-    ap (λ b. cond b (Some y) (find (λ (z : Hist). z.position == x.position) (front ++ x ∷ back))) (other_place y.position x.position (stands_before y front x back order))
+    ap (λ b. cond b (Some y) (find (λ (z : Hist). z.position == x.position) (front ++ x ∷ back))) (less_apart y.position x.position (stands_before y front x back order))
     ∙ found_own front x back (behind_first y (front ++ x ∷ back) order)
 
 -- what was found passes the test by which it was found, and each that all pass

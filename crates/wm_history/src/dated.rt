@@ -15,6 +15,7 @@ ghost use Rattle.wm_period.specs.Pieces.{Held, held, held_at};
 ghost use Rattle.wm_spec.specs.Lists.{Cell};
 ghost use Rattle.wm_state.specs.Listing.{IsShowingBy};
 
+use crate::layers::Layers;
 use std::alloc::Global;
 use std::collections::BTreeMap;
 use wm_base::{Key, Memory, Period, Stamp};
@@ -26,26 +27,29 @@ use wm_spec::record::{Hist, Space, Table};
 use wm_version_rows::laying::{lay_key, period_of};
 use wm_version_rows::listing::{Asked, push_rows};
 
-/// The pieces of keys of a table, by key.
-type Laid = BTreeMap<Key, Pieces>;
+/// What the rows of a table are made of, by key.
+type Laid = BTreeMap<Key, Layers>;
 
-/// Puts pieces in the place of those of a key.
-fn set_pieces(alloc: Global, laid: &mut Laid, key: &Key, pieces: Pieces) -> Result<(), Memory>
-    ensures { OnOk result ((k : List Value) → laid_at laid.new.entries k ≡ (if is_eq (key_order key.now k) then pieces else laid_at laid.old.entries k)) }
+/// Puts what a workspace was born with in the place of what is known of a key.
+fn set_born(alloc: Global, laid: &mut Laid, key: &Key, born: Pieces) -> Result<(), Memory>
+    ensures { OnOk result ((k : List Value) (t : ℕ) → laid_at laid.new.entries k t ≡ (if is_eq (key_order key.now k) then held_at born t else laid_at laid.old.entries k t)) }
 {
     let own = key.copy(alloc)?;
-    laid.insert(own, pieces)?;
+    laid.insert(own, Layers::of_birth(alloc, born))?;
     Ok(())
 }
 
-/// Puts a piece over those of a key.
+/// Puts a piece over all that is known of a key.
 fn put_piece(alloc: Global, laid: &mut Laid, key: &Key, piece: Piece) -> Result<(), Memory>
-    ensures { OnOk result ((k : List Value) (t : ℕ) → held_at (laid_at laid.new.entries k) t ≡ (if is_eq (key_order key.now k) then option_or (then_some (covers piece.period t) (held piece)) (held_at (laid_at laid.old.entries key.now) t) else held_at (laid_at laid.old.entries k) t)) }
+    ensures { OnOk result ((k : List Value) (t : ℕ) → laid_at laid.new.entries k t ≡ (if is_eq (key_order key.now k) then option_or (then_some (covers piece.period t) (held piece)) (laid_at laid.old.entries key.now t) else laid_at laid.old.entries k t)) }
 {
     let own = key.copy(alloc)?;
-    let mut pieces = laid.remove(&own).unwrap_or(Pieces::new(alloc));
-    pieces.put(alloc, piece)?;
-    laid.insert(own, pieces)?;
+    let mut layers = match laid.remove(&own) {
+        Some(layers) => layers,
+        None => Layers::of_birth(alloc, Pieces::new(alloc)),
+    };
+    layers.write(piece)?;
+    laid.insert(own, layers)?;
     Ok(())
 }
 
@@ -62,7 +66,7 @@ fn piece_over(hist: &Hist, period: Period) -> Piece
     }
 }
 
-/// Puts what the entry of an id wrote over the pieces of its key, where its moment is at most a date.
+/// Puts what the entry of an id wrote over what is known of its key, where its moment is at most a date.
 fn put_early(
     alloc: Global,
     image: &Image,
@@ -84,8 +88,8 @@ fn put_early(
     put_piece(alloc, laid, &hist.cells.key, piece_over(hist, period))
 }
 
-/// Puts what the entries of some ids wrote over the pieces of their keys, one after another, of those whose moment is at
-/// most a date.
+/// Puts what the entries of some ids wrote over what is known of their keys, one after another, of those whose moment
+/// is at most a date.
 fn put_all_early(
     alloc: Global,
     image: &Image,
@@ -115,7 +119,7 @@ fn born(alloc: Global, image: &Image, space: &Space, table: &Table) -> Result<La
     };
     for (key, versions) in keys {
         let pieces = lay_key(alloc, image, versions.as_slice(), space.birth_version)?;
-        set_pieces(alloc, &mut laid, key, pieces)?;
+        set_born(alloc, &mut laid, key, pieces)?;
     }
     Ok(laid)
 }
@@ -138,12 +142,13 @@ fn stood(
     Ok(laid)
 }
 
-/// What is shown of the rows of all keys, by key and from.
+/// What is shown of the rows of all keys, by key and from. Each key is laid when its rows are told.
 fn list_laid(alloc: Global, image: &Image, asked: &Asked, laid: &Laid) -> Result<RowList, Memory>
     ensures { IfOk result (λ rows. (f : Cell → Option Held) → HoldBy laid.now.entries asked.now.table f → HasEnded f → IsShowingBy (parts_of image.now) f asked.now.table asked.now.valid asked.now.within rows) }
 {
     let mut rows = RowList::new(alloc);
-    for (_, pieces) in laid {
+    for (_, layers) in laid {
+        let pieces = layers.laid(alloc)?;
         push_rows(alloc, image, &mut rows, asked, pieces.list())?;
     }
     Ok(rows)
@@ -151,7 +156,7 @@ fn list_laid(alloc: Global, image: &Image, asked: &Asked, laid: &Laid) -> Result
 
 /// The rows of a table with history as they stood in a workspace on a date, by key and from: the rows; where the table
 /// has valid time, those that overlap a period, each with its own behind its values. The keys of the table and the log
-/// of the workspace on it are gone through at once.
+/// of the workspace on it are gone through at once. What the log has of a key is laid in halves over one another.
 pub fn dated_showing(
     alloc: Global,
     image: &Image,

@@ -39,9 +39,9 @@ lay_key-requires-clause-spanned c =
 pub loop-key-preserved : goal.loop-key-preserved
 loop-key-preserved c =
     held_next c.args.image.now c.args.space.now.birth_version c.args.table.now.number c.into_iter-key-iterator.result c.loop-key.key-iterator c.next.new.self (c.in-Some-2.key.now, c.in-Some-2.versions.now)
-    c.as_slice.result.now c.in_ok-pieces.pieces c.loop-key.laid.entries c.set_pieces.new.laid.entries c.in-Some-2.ensures.steps c.loop-key.invariant
+    c.as_slice.result.now c.in_ok-pieces.pieces c.loop-key.laid.entries c.set_born.new.laid.entries c.in-Some-2.ensures.steps c.loop-key.invariant
     (subst (AreKeysOf c.args.image.now c.args.table.now.number) (sym c.into_iter-key-iterator.ensures.into_iter_gives.0) c.in-Some.ensures) c.as_slice.ensures.value c.in_ok-pieces.ensures
-    c.in_ok-set_pieces.ensures
+    c.in_ok-set_born.ensures
 
 pub returns : goal.returns
 returns c =
