@@ -3,7 +3,7 @@ use Rattle.std.proofs.Common.{◌≡◌, ℕ, zero, suc, ◌==◌, nat_lt, Bool,
 use Rattle.std.proofs.lemmas.Bool.{eqb-true, true≢false}
 use Rattle.std.proofs.lemmas.Option.{same_Some}
 use Rattle.std.specs.Bool.{then_some}
-use Rattle.std.specs.List.{find, list_all, list_any}
+use Rattle.std.specs.List.{find, list_all}
 use Rattle.std.specs.Option.{option_map_or, option_or}
 use Rattle.wm_graph.specs.Parts.{Parts, space_of}
 use Rattle.wm_graph.specs.Rules.{keep_rules}
@@ -11,7 +11,7 @@ use Rattle.wm_spec.specs.declared.record.space.Space.{Space}
 use Rattle.wm_state.specs.Firsts.{least_below}
 use Rattle.wm_state.specs.Standing.{space_after}
 use Rattle.wm_state.proofs.Apart.{found-passes}
-use Rattle.wm_state.proofs.Mapped.{all-found, find-none}
+use Rattle.wm_state.proofs.Mapped.{all-found}
 use Rattle.wm_state.proofs.Spaces.{numbers_under, ruled_spaces}
 
 some_passes : (b : Bool) (n m : ℕ) → then_some b n ≡ Some m → (b ≡ true) × (n ≡ m)

@@ -1,3 +1,4 @@
 pub mod Least
 pub mod Looks
+pub mod Tops
 pub mod Outlines
