@@ -238,7 +238,7 @@ module _ (rs : List Stored) (m : ℕ) (session : Session) (t : Table) (a : Space
       ∙ spent_at_by (length parts + line_work) rs xs m s (a.log_length + length changes) c (record s { durable = locked_by session session.space parts (written_all session.space es s.durable) }, Done count) st made.one short much) none seats says
 
   -- they are
-  pub writes_made : (p : Planned) (entries : Vec NewEntry Global) (parts : List NewLock) → map entry_of entries.items ≡ es → IsFault rs session es None → AreParts rs session es parts → MayWrite rs session.space m session.user t a c (length parts) changes
+  pub writes_made : (p : Planned) (entries : List NewEntry) (parts : List NewLock) → map entry_of entries ≡ es → IsFault rs session es None → AreParts rs session es parts → MayWrite rs session.space m session.user t a c (length parts) changes
       → p.edits.items ≡ write_edits session.space session entries parts → seating_view p.seating ≡ Stay → answer_view p.answer ≡ Done count → DoesAs rs m session a (write_all session t count changes) p
   writes_made p entries parts entries_are is locked may edits_are seats says = λ xs act acts.
       told rs xs m p (write_edits session.space session entries parts) Stay (Done count) act edits_are seats says

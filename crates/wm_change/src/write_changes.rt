@@ -30,7 +30,7 @@ use wm_plan::seating::Seating;
 use wm_plan::session::Session;
 use wm_plan::work::{is_long, is_spent_by};
 use wm_spec::record::{Counters, Table};
-use wm_state::edit::{Cells, Edit, NewEntry, NewLock};
+use wm_state::edit::{Cells, Edit, Entries, NewEntry, NewLock};
 
 /// The entry that is written for a change, of this stamp.
 fn entry_of(
@@ -131,9 +131,10 @@ fn edits_of(
     entries: Vec<NewEntry>,
     parts: Vec<NewLock>,
 ) -> Result<Vec<Edit>, Memory>
-    ensures { IfOk result (λ made. made.items ≡ write_edits session.now.space session.now entries parts.items) }
+    ensures { IfOk result (λ made. made.items ≡ write_edits session.now.space session.now entries.items parts.items) }
 {
     let space = session.space();
+    let entries = Entries::from_vec(entries);
     let mut edits = Vec::new(alloc);
     edits.push(Edit::Append { space, entries })?;
     let Some(mode) = session.locking() else {

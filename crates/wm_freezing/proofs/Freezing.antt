@@ -16,9 +16,10 @@ use Rattle.wm_model.specs.Seating.{Stay}
 use Rattle.wm_model.specs.Planning.{SeatsStaged}
 use Rattle.wm_model.specs.Step.{Outcome, already_frozen, at_its_end, bad_name, first_fault, first_session, for_named, freeze_faults, freeze_plan, freezing, freezing_edits, freezing_seating, hold_asked, hold_on, hold_worded, inside_fault, is_name, is_spent, mistyped, mode_word, no_workspace, outcome, refusal_of, refused_if, refused_with, reserved_name, session_inside, space_named, spares_live, spent, work_fault, writer_given}
 use Rattle.wm_outcome.proofs.Faults.{AtPlace, Ranked, at_for, at_if, least_first, least_none, ranked_behind}
-use Rattle.wm_freezing.proofs.Faults.{also_clear}
+use Rattle.wm_outcome.proofs.Told.{also_clear, told_idle}
 use Rattle.wm_outcome.proofs.Named.{InOrder, can_named, can_outcome, fronted, of_named, seats_named}
 use Rattle.wm_outcome.proofs.Plans.{drafts_one}
+use Rattle.wm_outcome.specs.Fitting.{Fits}
 use Rattle.wm_outline.proofs.Looks.{named_numbered}
 use Rattle.wm_outline.specs.Outline.{Outline, SpaceOutline, outline_of}
 use Rattle.wm_plan.specs.Idle.{is_idle}
@@ -131,7 +132,7 @@ module _ (rs : List Stored) (xs : List Session) (m : ℕ) (rules : keep_rules (p
   holds_one (OneWriter user) r here short room = drafts_one rs xs m _ rules early refl (unspent _ room) (record { space = r; there = here; short = short })
   holds_one WmOnly r here short room = drafts_one rs xs m _ rules early refl (unspent _ room) (record { space = r; there = here; short = short })
 
-  pub can_freeze : (session : Session) (args : List Arg) (q : Outcome) → is_short session.user ≡ true → q ≡ outcome (freeze_plan session args (outline_of (parts_of rs) xs m)) → CanDraft rs m q.edits
+  can_freeze : (session : Session) (args : List Arg) (q : Outcome) → is_short session.user ≡ true → q ≡ outcome (freeze_plan session args (outline_of (parts_of rs) xs m)) → CanDraft rs m q.edits
   can_freeze session args q short is = subst (λ (q : Outcome). CanDraft rs m q.edits) (sym is) (by_writer (refused_if (option_map_or (λ (user : List ℕ). not (is_name user)) (writer_given args) false) bad_name) refl)
     where
       by_writer : (f : Option Refusal) → refused_if (option_map_or (λ (user : List ℕ). not (is_name user)) (writer_given args) false) bad_name ≡ f → CanDraft rs m (outcome (freeze_plan session args (outline_of (parts_of rs) xs m))).edits
@@ -146,7 +147,7 @@ module _ (rs : List Stored) (xs : List Session) (m : ℕ) (rules : keep_rules (p
 -- ---- what becomes of the sessions, and the answer
 
 module _ (session : Session) (args : List Arg) (o : Outline) where
-  pub freeze_seats : (p : Parts) (q : Outcome) → q ≡ outcome (freeze_plan session args o) → SeatsStaged p q.seating
+  freeze_seats : (p : Parts) (q : Outcome) → q ≡ outcome (freeze_plan session args o) → SeatsStaged p q.seating
   freeze_seats p q is = subst (λ (q : Outcome). SeatsStaged p q.seating) (sym is) (seats_named (faults_in session args) (no_workspace (name_in args)) (freezing (hold_asked session args) o) p (λ x. by_hold (hold_asked session args) x.number) (space_named (name_in args) o))
     where
       by_hold : (hold : Hold) (n : ℕ) → SeatsStaged p (freezing_seating hold n)
@@ -157,8 +158,19 @@ module _ (session : Session) (args : List Arg) (o : Outline) where
       by_hold (OneWriter user) n = tt
       by_hold WmOnly n = tt
 
-  pub freeze_idles : is_idle (freeze_plan session args o).answer ≡ true → ((freeze_plan session args o).edits ≡ []) × ((freeze_plan session args o).seating ≡ Stay)
+  freeze_idles : is_idle (freeze_plan session args o).answer ≡ true → ((freeze_plan session args o).edits ≡ []) × ((freeze_plan session args o).seating ≡ Stay)
   freeze_idles e = absurd (false≢true (sym (of_named (faults_in session args) (no_workspace (name_in args)) (freezing (hold_asked session args) o) (λ p. is_idle p.answer ≡ false) refl (λ x. refl) (space_named (name_in args) o)) ∙ e))
+
+-- ---- it fits the records
+
+pub fits_freeze : (rs : List Stored) (xs : List Session) (m : ℕ) → keep_rules (parts_of rs) ≡ true → nat_lt m END ≡ true → (session : Session) (args : List Arg) → is_short session.user ≡ true → Fits rs m (freeze_plan session args (outline_of (parts_of rs) xs m))
+fits_freeze rs xs m rules early session args short =
+    let p = freeze_plan session args (outline_of (parts_of rs) xs m) in
+    record {
+      can = can_freeze rs xs m rules early session args (outcome p) short refl;
+      seats = freeze_seats session args (outline_of (parts_of rs) xs m) (parts_of rs) (outcome p) refl;
+      idle = told_idle p (freeze_idles session args (outline_of (parts_of rs) xs m));
+    }
 
 -- ---- what comes of it
 

@@ -9,7 +9,7 @@ use Rattle.wm_base.specs.declared.refusal.Refusal.{Refusal}
 use Rattle.wm_base.specs.declared.refusal.Refusal.TheVariants.{Form}
 use Rattle.wm_calls.specs.Arguments.{text_given}
 use Rattle.wm_calls.specs.Faults.{argument_fault}
-use Rattle.wm_freezing.proofs.Faults.{also_clear}
+use Rattle.wm_outcome.proofs.Told.{also_clear, told_idle}
 use Rattle.wm_freezing.proofs.Freezing.{at_spent, unspent}
 use Rattle.wm_freezing.specs.Freeing.{freeing}
 use Rattle.wm_grammar.specs.declared.procedure.Parameter.TheVariants as parameters
@@ -24,6 +24,7 @@ use Rattle.wm_model.specs.Step.{Outcome, Plan, first_fault, for_named, hold_on, 
 use Rattle.wm_outcome.proofs.Faults.{at_for, least_first, least_none}
 use Rattle.wm_outcome.proofs.Named.{InOrder, can_named, fronted, of_named, seats_named}
 use Rattle.wm_outcome.proofs.Plans.{drafts_one}
+use Rattle.wm_outcome.specs.Fitting.{Fits}
 use Rattle.wm_outline.proofs.Looks.{named_numbered}
 use Rattle.wm_outline.specs.Outline.{Outline, SpaceOutline, outline_by, outline_of}
 use Rattle.wm_plan.specs.Idle.{is_idle}
@@ -91,7 +92,7 @@ module _ (rs : List Stored) (xs : List Session) (m : ℕ) (rules : keep_rules (p
   frees_one (OneWriter user) r here clear = drafts_one rs xs m _ rules early refl (unspent _ (least_none _ _ clear).0) (record { space = r; there = here; short = refl })
   frees_one WmOnly r here clear = drafts_one rs xs m _ rules early refl (unspent _ (least_none _ _ clear).0) (record { space = r; there = here; short = refl })
 
-  pub can_unfreeze : (args : List Arg) (q : Outcome) → q ≡ outcome (unfreeze_plan args (outline_of (parts_of rs) xs m)) → CanDraft rs m q.edits
+  can_unfreeze : (args : List Arg) (q : Outcome) → q ≡ outcome (unfreeze_plan args (outline_of (parts_of rs) xs m)) → CanDraft rs m q.edits
   can_unfreeze args q is = subst (λ (q : Outcome). CanDraft rs m q.edits) (sym is) (can_named (faults_in args) (no_workspace (name_in args)) (thawing (outline_of (parts_of rs) xs m)) rs xs m (name_in args) rules each)
     where
       each : (r : Space) → find (λ (s : Space). bytes_eq (name_in args) s.name) (parts_of rs).spaces ≡ Some r → least (thawing (outline_of (parts_of rs) xs m) (outline_by (parts_of rs) r)).faults ≡ None
@@ -101,7 +102,7 @@ module _ (rs : List Stored) (xs : List Session) (m : ℕ) (rules : keep_rules (p
 -- ---- what becomes of the sessions, and the answer
 
 module _ (args : List Arg) (o : Outline) where
-  pub unfreeze_seats : (p : Parts) (q : Outcome) → q ≡ outcome (unfreeze_plan args o) → SeatsStaged p q.seating
+  unfreeze_seats : (p : Parts) (q : Outcome) → q ≡ outcome (unfreeze_plan args o) → SeatsStaged p q.seating
   unfreeze_seats p q is = subst (λ (q : Outcome). SeatsStaged p q.seating) (sym is) (seats_named (faults_in args) (no_workspace (name_in args)) (thawing o) p (λ x. by_hold (λ q. SeatsStaged p q.seating) o x (each x)) (space_named (name_in args) o))
     where
       each : (x : SpaceOutline) (hold : Hold) → SeatsStaged p (thawing_by hold o x).seating
@@ -112,7 +113,7 @@ module _ (args : List Arg) (o : Outline) where
       each x (OneWriter user) = tt
       each x WmOnly = tt
 
-  pub unfreeze_idles : is_idle (unfreeze_plan args o).answer ≡ true → ((unfreeze_plan args o).edits ≡ []) × ((unfreeze_plan args o).seating ≡ Stay)
+  unfreeze_idles : is_idle (unfreeze_plan args o).answer ≡ true → ((unfreeze_plan args o).edits ≡ []) × ((unfreeze_plan args o).seating ≡ Stay)
   unfreeze_idles e = absurd (false≢true (sym (of_named (faults_in args) (no_workspace (name_in args)) (thawing o) (λ p. is_idle p.answer ≡ false) refl (λ x. by_hold (λ p. is_idle p.answer ≡ false) o x (each x)) (space_named (name_in args) o)) ∙ e))
     where
       each : (x : SpaceOutline) (hold : Hold) → is_idle (thawing_by hold o x).answer ≡ false
@@ -122,6 +123,17 @@ module _ (args : List Arg) (o : Outline) where
       each x ReadOnly = refl
       each x (OneWriter user) = refl
       each x WmOnly = refl
+
+-- ---- it fits the records
+
+pub fits_unfreeze : (rs : List Stored) (xs : List Session) (m : ℕ) → keep_rules (parts_of rs) ≡ true → nat_lt m END ≡ true → (args : List Arg) → Fits rs m (unfreeze_plan args (outline_of (parts_of rs) xs m))
+fits_unfreeze rs xs m rules early args =
+    let p = unfreeze_plan args (outline_of (parts_of rs) xs m) in
+    record {
+      can = can_unfreeze rs xs m rules early args (outcome p) refl;
+      seats = unfreeze_seats args (outline_of (parts_of rs) xs m) (parts_of rs) (outcome p) refl;
+      idle = told_idle p (unfreeze_idles args (outline_of (parts_of rs) xs m));
+    }
 
 -- ---- what comes of it
 

@@ -2,7 +2,6 @@
 #![tactic(auto)]
 
 pub mod asked;
-pub mod calls;
 pub mod freeze;
 pub mod hold;
 pub mod unfreeze;

@@ -11,6 +11,7 @@ use Rattle.wm_model.specs.Planning.{Does, SeatsStaged, StandsAt, Stay}
 use Rattle.wm_model.specs.Step.{Outcome, Plan, also, barred, barred_outcome, done_so, for_named, is_before, least, outcome, refused_or, refused_with, run}
 use Rattle.wm_outcome.proofs.Named.{can_outcome, seats_outcome}
 use Rattle.wm_outcome.proofs.Plans.{does_outlined}
+use Rattle.wm_outcome.specs.Fitting.{Fits}
 use Rattle.wm_outline.specs.Outline.{Outline, SpaceOutline, outline, outline_of}
 use Rattle.wm_plan.proofs.Planning.{does_one}
 use Rattle.wm_plan.specs.Forks.{AreForks}
@@ -33,15 +34,12 @@ pub does_value : (rs : List Stored) (xs : List Session) (m : ℕ) (r : Result Pl
 does_value rs xs m (Ok p) plan act is can seats alike = does_one rs xs m p (λ s. run (plan (outline s)) s) act alike (does_outlined rs xs m plan (outcome_view p) (can (outcome_view p) is) (seats (outcome_view p) is) is)
 does_value rs xs m (Err e) plan act is can seats alike = tt
 
--- so does a plan that makes no edit
-pub does_seating : (rs : List Stored) (xs : List Session) (m : ℕ) (r : Result Planned Memory) (plan : Outline → Plan) (act : State → State × Answer) → IfOk r (λ p. outcome_view p ≡ outcome (plan (outline_of (parts_of rs) xs m)))
-    → ((o : Outline) → (plan o).edits ≡ []) → ((o : Outline) (p : Parts) → SeatsStaged p (plan o).seating) → ((s : State) → act s ≡ run (plan (outline s)) s) → IfOk r (λ p. DoesIt rs xs m p act)
-does_seating rs xs m r plan act is none seats alike =
-    let q : Plan = plan (outline_of (parts_of rs) xs m) in
-    does_value rs xs m r plan act is
-    (λ o same. subst (λ (x : Outcome). CanDraft rs m x.edits) (sym same) (can_outcome rs m q (λ clear. subst (CanDraft rs m) (sym (none (outline_of (parts_of rs) xs m))) tt)))
-    (λ o same. subst (λ (x : Outcome). SeatsStaged (parts_of rs) x.seating) (sym same) (seats_outcome (parts_of rs) q (seats (outline_of (parts_of rs) xs m) (parts_of rs))))
-    (λ s st. alike s)
+-- so does a plan that fits the records
+pub does_fit : (rs : List Stored) (xs : List Session) (m : ℕ) (r : Result Planned Memory) (plan : Outline → Plan) (act : State → State × Answer) → IfOk r (λ p. outcome_view p ≡ outcome (plan (outline_of (parts_of rs) xs m)))
+    → Fits rs m (plan (outline_of (parts_of rs) xs m)) → ((s : State) → act s ≡ run (plan (outline s)) s) → IfOk r (λ p. DoesIt rs xs m p act)
+does_fit rs xs m r plan act is fits alike =
+    does_value rs xs m r plan act is (λ o same. subst (λ (x : Outcome). CanDraft rs m x.edits) (sym same) fits.can)
+    (λ o same. subst (λ (x : Outcome). SeatsStaged (parts_of rs) x.seating) (sym same) fits.seats) (λ s st. alike s)
 
 -- what holds of a plan, where there is memory for it
 pub if_ok : (r : Result Planned Memory) (P Q : Planned → Type 0) → ((p : Planned) → P p → Q p) → IfOk r P → IfOk r Q
@@ -65,11 +63,10 @@ idles_value (Ok p) q is idle = λ said. let h = by_fault (least q.faults) (ap (�
     by_fault (Some refusal) e = (refl, refl)
 idles_value (Err e) q is idle = tt
 
--- the plan for the workspace of a name is answered that it is done, where each of these plans is
-pub never_named : (front : List (Option Refusal)) (lacks : Answer) (act : SpaceOutline → Plan) → ((x : SpaceOutline) → is_idle (act x).answer ≡ false) → (o : Option SpaceOutline) → is_idle (also front (for_named lacks act o)).answer ≡ true
-    → ((also front (for_named lacks act o)).edits ≡ []) × ((also front (for_named lacks act o)).seating ≡ Stay)
-never_named front lacks act busy None idle = absurd (false≢true idle)
-never_named front lacks act busy (Some x) idle = absurd (false≢true (sym (busy x) ∙ idle))
+-- a plan that fits the records changes nothing where its answer is idle
+pub idles_fit : (rs : List Stored) (m : ℕ) (r : Result Planned Memory) (q : Plan) → IfOk r (λ p. outcome_view p ≡ outcome q) → Fits rs m q → IfOk r Idles
+idles_fit rs m (Ok p) q is fits = λ said. let h = fits.idle (ap (λ (o : Outcome). is_idle o.answer) (sym is) ∙ said) in (ap (λ (o : Outcome). o.edits) is ∙ h.0, stays p.seating (ap (λ (o : Outcome). o.seating) is ∙ h.1))
+idles_fit rs m (Err e) q is fits = tt
 
 -- ---- a fault more, which many lines share
 

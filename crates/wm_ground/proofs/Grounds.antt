@@ -7,8 +7,8 @@ use Rattle.std.specs.Option.{option_and_then, option_map, option_map_or}
 use Rattle.std.specs.Str.{bytes_eq}
 use Rattle.wm_graph.specs.Parts.{Parts, space_of}
 use Rattle.wm_graph.specs.Rules.{keep_rules}
-use Rattle.wm_model.specs.Step.{counter_limit, is_spent, line_work, space_named, space_numbered}
-use Rattle.wm_outcome.specs.Removing.{is_child}
+use Rattle.wm_model.specs.Step.{counter_limit, is_child_of, is_spent, line_work, space_named, space_numbered}
+use Rattle.wm_outcome.proofs.Numbered.{numbered_by}
 use Rattle.wm_outline.proofs.Least.{least_none, least_passes, number_under}
 use Rattle.wm_outline.proofs.Looks.{first_by, named_by}
 use Rattle.wm_outline.proofs.Outlines.{counted_is}
@@ -23,30 +23,11 @@ use Rattle.wm_state.specs.State.{Session}
 pub named_on : (p : Parts) (xs : List Session) (m : ℕ) (name : List ℕ) (o : Option Space) → keep_rules p ≡ true → o ≡ find (λ (r : Space). bytes_eq name r.name) p.spaces → space_named name (outline_of p xs m) ≡ option_map (outline_by p) o
 named_on p xs m name o rules is = named_by p rules name ∙ sym (ap (option_map (outline_by p)) is)
 
--- what is found by a number is the first that has it
-numbered_first : (p : Parts) (n : ℕ) → first_recorded (λ (r : Space). r.number == n) p.spaces ≡ space_of p.spaces n
-numbered_first p n = by_least (least_below (space_after p.spaces) passes) refl (space_of p.spaces n) refl
-  where
-    passes : ℕ → Bool
-    passes k = option_map_or (λ (r : Space). r.number == n) (space_of p.spaces k) false
-
-    number_same : (k : ℕ) (o : Option Space) → space_of p.spaces k ≡ o → option_map_or (λ (r : Space). r.number == n) o false ≡ true → k ≡ n
-    number_same k None is e = absurd (true≢false (sym e))
-    number_same k (Some r) is e = sym (space_number p k r is) ∙ eqb-true r.number n e
-
-    by_least : (l : Option ℕ) → least_below (space_after p.spaces) passes ≡ l → (o : Option Space) → space_of p.spaces n ≡ o → option_and_then (space_of p.spaces) (least_below (space_after p.spaces) passes) ≡ space_of p.spaces n
-    by_least None none None is = ap (option_and_then (space_of p.spaces)) none ∙ sym is
-    by_least None none (Some r) is =
-        absurd
-        (true≢false
-        (sym (ap (λ o. option_map_or (λ (r : Space). r.number == n) o false) is ∙ eq-eqb r.number n (space_number p n r is)) ∙ least_none (space_after p.spaces) passes none n (number_under p n r is)))
-    by_least (Some k) found o is = ap (option_and_then (space_of p.spaces)) found ∙ ap (space_of p.spaces) (number_same k (space_of p.spaces k) refl (least_passes (space_after p.spaces) passes k found))
-
 pub numbered_on : (p : Parts) (xs : List Session) (m n : ℕ) (o : Option Space) → o ≡ space_of p.spaces n → space_numbered n (outline_of p xs m) ≡ option_map (outline_by p) o
-numbered_on p xs m n o is = first_by p (λ (x : SpaceOutline). x.number == n) ∙ ap (option_map (outline_by p)) (numbered_first p n ∙ sym is)
+numbered_on p xs m n o is = numbered_by p xs m n ∙ sym (ap (option_map (outline_by p)) is)
 
-pub child_on : (p : Parts) (xs : List Session) (m n : ℕ) (o : Option Space) → o ≡ first_recorded (is_child_from n 0 0) p.spaces → find (is_child n) (outline_of p xs m).spaces ≡ option_map (outline_by p) o
-child_on p xs m n o is = first_by p (is_child n) ∙ ap (λ (test : Space → Bool). option_map (outline_by p) (first_recorded test p.spaces)) (λ i r. anywhere (r.parent == n) (not (r.number == n)) (nat_le 0 r.birth_place) (nat_le 0 r.from) (leb-zero r.birth_place) i) ∙ sym (ap (option_map (outline_by p)) is)
+pub child_on : (p : Parts) (xs : List Session) (m n : ℕ) (o : Option Space) → o ≡ first_recorded (is_child_from n 0 0) p.spaces → find (is_child_of n) (outline_of p xs m).spaces ≡ option_map (outline_by p) o
+child_on p xs m n o is = first_by p (is_child_of n) ∙ ap (λ (test : Space → Bool). option_map (outline_by p) (first_recorded test p.spaces)) (λ i r. anywhere (r.parent == n) (not (r.number == n)) (nat_le 0 r.birth_place) (nat_le 0 r.from) (leb-zero r.birth_place) i) ∙ sym (ap (option_map (outline_by p)) is)
   where
     anywhere : (a b c d : Bool) → c ≡ true → (a && b) ≡ (a && (b && (c || d)))
     anywhere true true true d e = refl

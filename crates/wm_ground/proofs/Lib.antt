@@ -1,3 +1,4 @@
 pub mod Bridge
 pub mod Grounds
 pub mod Losing
+pub mod Savepoints

@@ -1,8 +1,9 @@
 //! What comes of a plan.
 ghost use Rattle.std.specs.Prelude.{◌≡◌, [], ◌∷◌, Some, IfOk};
 ghost use Rattle.wm_ground.specs.Outcomes.{outcome_view};
-ghost use Rattle.wm_model.specs.Planning.{Stay};
+ghost use Rattle.wm_model.specs.Planning.{Set, Stay};
 ghost use Rattle.wm_model.specs.Step.{barred_outcome, is_before, refused_with};
+ghost use Rattle.wm_plan.specs.Stands.{setting_view};
 ghost use Rattle.wm_plan.specs.Views.{answer_view, seating_view};
 ghost use Rattle.wm_print.specs.Texts.{Fine};
 
@@ -12,6 +13,7 @@ use wm_base::{Memory, Refusal};
 use wm_plan::answer::Answer;
 use wm_plan::planned::Planned;
 use wm_plan::seating::Seating;
+use wm_plan::session::{Session, Setting};
 use wm_state::edit::Edit;
 
 /// The answer alone: nothing changes.
@@ -40,6 +42,14 @@ pub fn seated(alloc: Global, seating: Seating) -> Planned
     ensures { outcome_view result ≡ record { edits = []; seating = seating_view seating; answer = Fine } }
 {
     Planned::seated(alloc, seating)
+}
+
+/// Something is set of a session, and no record changes.
+pub fn setting(alloc: Global, session: &Session, setting: Setting) -> Result<Planned, Memory>
+    ensures { IfOk result (λ p. outcome_view p ≡ record { edits = []; seating = Set session.now.name (setting_view setting); answer = Fine }) }
+{
+    let name = session.name().copy(alloc)?;
+    Ok(seated(alloc, Seating::Set { name, setting }))
 }
 
 /// One edit, and the sessions change.

@@ -19,7 +19,7 @@ use Rattle.wm_model.specs.Lawful.{is_full_row}
 use Rattle.wm_model.specs.Planning.{SeatsStaged, StandsAt}
 use Rattle.wm_model.specs.Seating.{Stay, Set}
 use Rattle.wm_model.specs.Step.Sessions.{Lock as LockSetting}
-use Rattle.wm_model.specs.Step.{Asking, Outcome, Plan, also, asking_faults, content_numbered, first_fault, lock_rows_plan, mistyped, no_workspace, outcome, refused_for, refusing, rows_in, rows_meant, run, set_locking_plan, unlock_rows_plan, unlocking, within, workspace_asked}
+use Rattle.wm_model.specs.Step.{Asking, Outcome, also, asking_faults, content_numbered, first_fault, lock_rows_plan, mistyped, no_workspace, outcome, refused_for, refusing, rows_in, rows_meant, run, set_locking_plan, unlock_rows_plan, unlocking, within, workspace_asked}
 use Rattle.wm_outcome.proofs.Faults.{least_behind}
 use Rattle.wm_outcome.proofs.Named.{can_outcome, one_fault, seats_outcome, told_first}
 use Rattle.wm_outcome.proofs.Plans.{does_planned, outline_at}
@@ -53,15 +53,6 @@ module _ (session : Session) (fault : Option (List ℕ)) (mode : Option LockMode
   set_clear name none is says =
       told_first (set_locking_plan session fault mode) None q (one_fault (refused_for mistyped fault)) (ap (λ f. first_fault (refused_for mistyped f ∷ [])) none)
       (says ∙ ap (λ n. let o : Outcome = record { edits = []; seating = Set n (LockSetting mode); answer = Fine } in o) is)
-
--- a plan that looks at nothing and makes no edit
-pub does_set : (r : Result Planned Memory) (plan : Plan) (act : State → State × Answer) → IfOk r (λ p. outcome_view p ≡ outcome plan) → plan.edits ≡ [] → ((parts : Parts) → SeatsStaged parts plan.seating) → ((s : State) → act s ≡ run plan s)
-    → IfOk r (λ p. (rs : List Stored) (xs : List Session) (m : ℕ) → DoesIt rs xs m p act)
-does_set (Ok p) plan act is none seats alike = λ rs xs m.
-    does_one rs xs m p (λ s. run plan s) act (λ s st. alike s)
-    (does_planned rs xs m (λ s. plan) (outcome_view p) (subst (λ (q : Outcome). CanDraft rs m q.edits) (sym is) (can_outcome rs m plan (λ clear. subst (CanDraft rs m) (sym none) tt)))
-    (subst (λ (q : Outcome). SeatsStaged (parts_of rs) q.seating) (sym is) (seats_outcome (parts_of rs) plan (seats (parts_of rs)))) (λ s st. sym is))
-does_set (Err e) plan act is none seats alike = tt
 
 -- ---- LockRows
 

@@ -2,7 +2,6 @@
 #![tactic(auto)]
 
 pub mod asked;
-pub mod calls;
 pub mod lock_rows;
 pub mod setting;
 pub mod unlock_rows;

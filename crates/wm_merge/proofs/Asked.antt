@@ -5,8 +5,6 @@ use Rattle.std.proofs.lemmas.Bool.Decides.{nat_tests}
 use Rattle.std.proofs.lemmas.List.{length-map}
 use Rattle.std.proofs.lemmas.List.Elements.{All-weaker}
 use Rattle.std.specs.List.{list_all}
-use Rattle.std.specs.declared.alloc.Global.{Global}
-use Rattle.std.specs.declared.vec.Vec.{Vec}
 use Rattle.wm_base.specs.declared.instant.TheConstants.{END}
 use Rattle.wm_graph.specs.Parts.{Parts, parts_of, space_of}
 use Rattle.wm_graph.specs.Rules.{is_short, keep_rules}
@@ -33,7 +31,7 @@ use Rattle.wm_telling.proofs.Replaying.{listed_copied, listed_old}
 use Rattle.wm_telling.proofs.Sorting.{listed_apart, listed_sorted}
 use Rattle.wm_telling.proofs.Storing.{Stores, stores_gained}
 use Rattle.wm_model.proofs.MergedEdits.{refresh_lockless}
-use Rattle.wm_model.proofs.RollingLine.{named_numbered}
+use Rattle.wm_model.proofs.Recorded.{named_numbered}
 use Rattle.wm_model.specs.Merged.{NamesFamily, Refreshes, gain_edits, is_ready_entry, refresh_edits}
 use Rattle.wm_merge.proofs.Clear.{refresh_left}
 use Rattle.wm_merge.proofs.Kept.{keys_kept}
@@ -110,8 +108,8 @@ can_draft rs m (e ∷ es) none work few can = (subst (λ k. CanWork (parts_of rs
 pub can_work : (p : Parts) (m : ℕ) (c : Counters) → p.counters ≡ c ∷ [] → nat_lt counter_limit (c.work + line_work) ≡ false → nat_lt m END ≡ true → CanWork p m line_work
 can_work p m c one spare early = record { counters = c; one = one; some = refl; room = spare; early = early }
 
-pub few_gains : (n : ℕ) (entries : Vec NewEntry Global) → length (gain_edits n entries) ≤ 1
-few_gains n entries = by_none (length entries.items == 0)
+pub few_gains : (n : ℕ) (entries : List NewEntry) → length (gain_edits n entries) ≤ 1
+few_gains n entries = by_none (length entries == 0)
   where
     by_none : (none : Bool) → length (if none then [] else edits.Gain n entries ∷ []) ≤ 1
     by_none true = omega arith
@@ -133,21 +131,21 @@ can_rebase rs m xs session workspace a b ks es refreshes may =
       kept = λ stays. keys_kept (parts_of rs) a ks may.own may.keys;
     }
 
-pub drafts_refresh : (rs : List Stored) (m : ℕ) (xs : List Session) (session : Session) (workspace : List ℕ) (a b : Space) (ks : List KeyPieces) (c : Counters) (entries : Vec NewEntry Global) → Ascend rs
-    → Refreshes rs m xs session workspace a b (map entry_of entries.items) → MayRefresh rs a ks (map entry_of entries.items) → nat_lt counter_limit (a.log_length + length entries.items) ≡ false
+pub drafts_refresh : (rs : List Stored) (m : ℕ) (xs : List Session) (session : Session) (workspace : List ℕ) (a b : Space) (ks : List KeyPieces) (c : Counters) (entries : List NewEntry) → Ascend rs
+    → Refreshes rs m xs session workspace a b (map entry_of entries) → MayRefresh rs a ks (map entry_of entries) → nat_lt counter_limit (a.log_length + length entries) ≡ false
     → (parts_of rs).counters ≡ c ∷ [] → nat_lt counter_limit (c.work + line_work) ≡ false → nat_lt m END ≡ true → CanDraft rs m (refresh_edits a.number entries)
 drafts_refresh rs m xs session workspace a b ks c entries sorted refreshes may room one spare early =
-    can_draft rs m (refresh_edits a.number entries) (refresh_lockless a.number entries) (can_work (parts_of rs) m c one spare early) (omega (arith, few_gains a.number entries)) (by_none (length entries.items == 0) refl)
+    can_draft rs m (refresh_edits a.number entries) (refresh_lockless a.number entries) (can_work (parts_of rs) m c one spare early) (omega (arith, few_gains a.number entries)) (by_none (length entries == 0) refl)
   where
     rules : keep_rules (parts_of rs) ≡ true
     rules = refreshes.family.space.rules
 
     rebase : CanRebase (parts_of rs) a.number false
-    rebase = can_rebase rs m xs session workspace a b ks (map entry_of entries.items) refreshes may
+    rebase = can_rebase rs m xs session workspace a b ks (map entry_of entries) refreshes may
 
-    by_none : (none : Bool) → (length entries.items == 0) ≡ none → CanEditAll rs m (edits.Rebase a.number false ∷ (if none then [] else edits.Gain a.number entries ∷ []))
+    by_none : (none : Bool) → (length entries == 0) ≡ none → CanEditAll rs m (edits.Rebase a.number false ∷ (if none then [] else edits.Gain a.number entries ∷ []))
     by_none true is = (rebase, λ work cs drafts. tt)
     by_none false is =
         can_refresh rs m a.number entries sorted rules rebase
-        (can_gain (parts_of rs) m session.user c rules one refreshes.user (gained_held (parts_of rs) a b) (stores_gained (parts_of rs) a b) (map entry_of entries.items) refreshes.listed may.ready
-        (some_entries entries.items is) a.number a (named_numbered rs workspace a refreshes.family.space) (listed_test a.log_length entries.items false room))
+        (can_gain (parts_of rs) m session.user c rules one refreshes.user (gained_held (parts_of rs) a b) (stores_gained (parts_of rs) a b) (map entry_of entries) refreshes.listed may.ready
+        (some_entries entries is) a.number a (named_numbered rs workspace a refreshes.family.space) (listed_test a.log_length entries false room))

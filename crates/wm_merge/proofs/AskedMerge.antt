@@ -2,8 +2,6 @@
 use Rattle.std.proofs.Common.{◌≡◌, ℕ, ◌+◌, ◌≤◌, ◌==◌, nat_lt, Bool, true, false, not, if◌then◌else◌, List, [], ◌∷◌, ◌++◌, map, length, Option, Some, None, is_some, refl, sym, ap, ◌∙◌, subst, append_assoc, arith}
 use Rattle.std.proofs.lemmas.List.{length-append}
 use Rattle.std.proofs.lemmas.Bool.{true≢false, not-true}
-use Rattle.std.specs.declared.alloc.Global.{Global}
-use Rattle.std.specs.declared.vec.Vec.{Vec}
 use Rattle.wm_base.specs.declared.instant.TheConstants.{END}
 use Rattle.wm_graph.specs.Parts.{parts_of}
 use Rattle.wm_graph.specs.Rules.{keep_rules}
@@ -22,11 +20,10 @@ use Rattle.wm_gained.proofs.Merging.{can_merge}
 use Rattle.wm_telling.specs.Telling.{gained_held, own_held}
 use Rattle.wm_telling.proofs.Storing.{stores_gained, stores_own}
 use Rattle.wm_model.proofs.MergedEdits.{merge_lockless}
-use Rattle.wm_model.proofs.RemovingLine.{childless}
-use Rattle.wm_model.proofs.RollingLine.{named_numbered}
+use Rattle.wm_model.proofs.Recorded.{childless, named_numbered}
 use Rattle.wm_model.specs.Merged.{Merges, after_edits, is_even_at, keep_edits, leaving_refusal, merge_edits, rebase_edits, replay_edits}
-use Rattle.wm_model.specs.Step.{Asked, first_fault, unlock_edits}
-use Rattle.wm_model.specs.Undone.{going_refusal, removing_refusal, resolving_refusal}
+use Rattle.wm_model.specs.Step.{Asked, unlock_edits}
+use Rattle.wm_model.specs.Undone.{going_refusal}
 use Rattle.wm_merge.proofs.Asked.{can_draft, can_gain, can_replay, can_work, few_gains, other_number, parent_there, some_entries}
 use Rattle.wm_merge.proofs.Answered.{turn_free}
 use Rattle.wm_merge.proofs.MergePlans.{MayMerge}
@@ -35,16 +32,16 @@ use Rattle.wm_merge.proofs.Clear.{MergeClear, can_keep, merge_clear, merge_left}
 -- ---- the edits, as what becomes of the parent and of the workspace
 
 -- entries, where there are some
-abbrev present : Bool → Vec NewEntry Global → Option (Vec NewEntry Global)
+abbrev present : Bool → List NewEntry → Option (List NewEntry)
 present none entries = if none then None else Some entries
 
-abbrev leaving : Bool → Bool → Vec NewEntry Global → edited.Leaving
-leaving removes even entries = record { removes = removes; rebases = not even; gained = present (length entries.items == 0) entries }
+abbrev leaving : Bool → Bool → List NewEntry → edited.Leaving
+leaving removes even entries = record { removes = removes; rebases = not even; gained = present (length entries == 0) entries }
 
-abbrev merging : Asked → Bool → Vec NewEntry Global → Vec NewEntry Global → edited.Merge
-merging asked even own entries = record { keeps = asked.keeps; own = present (length own.items == 0) own; leaving = leaving asked.removes even entries }
+abbrev merging : Asked → Bool → List NewEntry → List NewEntry → edited.Merge
+merging asked even own entries = record { keeps = asked.keeps; own = present (length own == 0) own; leaving = leaving asked.removes even entries }
 
-gain_is : (none : Bool) (n : ℕ) (entries : Vec NewEntry Global) → (if none then [] else edits.Gain n entries ∷ []) ≡ edited.bringing (edits.Gain n) (present none entries) []
+gain_is : (none : Bool) (n : ℕ) (entries : List NewEntry) → (if none then [] else edits.Gain n entries ∷ []) ≡ edited.bringing (edits.Gain n) (present none entries) []
 gain_is true n entries = refl
 gain_is false n entries = refl
 
@@ -52,12 +49,12 @@ gain_is false n entries = refl
 abbrev unlocks : Bool → List ℕ → List Edit
 unlocks removes makings = if removes then [] else unlock_edits makings
 
-leave_is : (removes even : Bool) (n : ℕ) (entries : Vec NewEntry Global) (makings : List ℕ) → after_edits removes even n entries makings ≡ edited.leave_edits n (leaving removes even entries) ++ unlocks removes makings
+leave_is : (removes even : Bool) (n : ℕ) (entries : List NewEntry) (makings : List ℕ) → after_edits removes even n entries makings ≡ edited.leave_edits n (leaving removes even entries) ++ unlocks removes makings
 leave_is true even n entries makings = refl
 leave_is false true n entries makings = refl
-leave_is false false n entries makings = ap (λ (es : List Edit). edits.Rebase n true ∷ (es ++ unlock_edits makings)) (gain_is (length entries.items == 0) n entries)
+leave_is false false n entries makings = ap (λ (es : List Edit). edits.Rebase n true ∷ (es ++ unlock_edits makings)) (gain_is (length entries == 0) n entries)
 
-replay_is : (none : Bool) (n : ℕ) (own : Vec NewEntry Global) (es : List Edit) → (if none then [] else edits.Replay n own ∷ []) ++ es ≡ edited.bringing (edits.Replay n) (present none own) es
+replay_is : (none : Bool) (n : ℕ) (own : List NewEntry) (es : List Edit) → (if none then [] else edits.Replay n own ∷ []) ++ es ≡ edited.bringing (edits.Replay n) (present none own) es
 replay_is true n own es = refl
 replay_is false n own es = refl
 
@@ -65,7 +62,7 @@ keep_is : (keeps : Bool) (n : ℕ) (es : List Edit) → keep_edits keeps n ++ es
 keep_is true n es = refl
 keep_is false n es = refl
 
-merge_is : (asked : Asked) (even : Bool) (n parent : ℕ) (own entries : Vec NewEntry Global) (makings : List ℕ)
+merge_is : (asked : Asked) (even : Bool) (n parent : ℕ) (own entries : List NewEntry) (makings : List ℕ)
     → merge_edits asked even n parent own entries makings ≡ edited.merge_edits parent n (merging asked even own entries) ++ unlocks asked.removes makings
 merge_is asked even n parent own entries makings =
     let leave = edited.leave_edits n (leaving asked.removes even entries) in
@@ -73,8 +70,8 @@ merge_is asked even n parent own entries makings =
     ap (λ (es : List Edit). keep_edits asked.keeps parent ++ (replay_edits parent own ++ es)) (leave_is asked.removes even n entries makings)
     ∙ ap (λ (es : List Edit). keep_edits asked.keeps parent ++ es) (sym (append_assoc (replay_edits parent own) leave gone))
     ∙ sym (append_assoc (keep_edits asked.keeps parent) (replay_edits parent own ++ leave) gone)
-    ∙ ap (λ (es : List Edit). (keep_edits asked.keeps parent ++ es) ++ gone) (replay_is (length own.items == 0) parent own leave)
-    ∙ ap (λ (es : List Edit). es ++ gone) (keep_is asked.keeps parent (edited.bringing (edits.Replay parent) (present (length own.items == 0) own) leave))
+    ∙ ap (λ (es : List Edit). (keep_edits asked.keeps parent ++ es) ++ gone) (replay_is (length own == 0) parent own leave)
+    ∙ ap (λ (es : List Edit). es ++ gone) (keep_is asked.keeps parent (edited.bringing (edits.Replay parent) (present (length own == 0) own) leave))
 
 -- locks may go behind whatever may be made
 can_unlock : (m : ℕ) (makings : List ℕ) (rs : List Stored) → CanEditAll rs m (unlock_edits makings)
@@ -92,11 +89,11 @@ few_keeps : (keeps : Bool) (n : ℕ) → length (keep_edits keeps n) ≤ 1
 few_keeps true n = omega arith
 few_keeps false n = omega arith
 
-few_replays : (none : Bool) (n : ℕ) (own : Vec NewEntry Global) → length (if none then [] else edits.Replay n own ∷ []) ≤ 1
+few_replays : (none : Bool) (n : ℕ) (own : List NewEntry) → length (if none then [] else edits.Replay n own ∷ []) ≤ 1
 few_replays true n own = omega arith
 few_replays false n own = omega arith
 
-few_rebases : (even : Bool) (n : ℕ) (entries : Vec NewEntry Global) → length (rebase_edits even n entries) ≤ 2
+few_rebases : (even : Bool) (n : ℕ) (entries : List NewEntry) → length (rebase_edits even n entries) ≤ 2
 few_rebases true n entries = omega arith
 few_rebases false n entries = omega (arith, few_gains n entries)
 
@@ -104,54 +101,53 @@ few_unlocks : (makings : List ℕ) → length (unlock_edits makings) ≤ 1
 few_unlocks [] = omega arith
 few_unlocks (making ∷ makings) = omega arith
 
-few_after : (removes even : Bool) (n : ℕ) (entries : Vec NewEntry Global) (makings : List ℕ) → length (after_edits removes even n entries makings) ≤ 3
+few_after : (removes even : Bool) (n : ℕ) (entries : List NewEntry) (makings : List ℕ) → length (after_edits removes even n entries makings) ≤ 3
 few_after true even n entries makings = omega arith
 few_after false even n entries makings = omega (arith, length-append (rebase_edits even n entries) (unlock_edits makings), few_rebases even n entries, few_unlocks makings)
 
-few_merges : (asked : Asked) (even : Bool) (n parent : ℕ) (own entries : Vec NewEntry Global) (makings : List ℕ) → length (merge_edits asked even n parent own entries makings) ≤ 2048
+few_merges : (asked : Asked) (even : Bool) (n parent : ℕ) (own entries : List NewEntry) (makings : List ℕ) → length (merge_edits asked even n parent own entries makings) ≤ 2048
 few_merges asked even n parent own entries makings =
     few (length (keep_edits asked.keeps parent)) (length (replay_edits parent own)) (length (after_edits asked.removes even n entries makings)) (length (replay_edits parent own ++ after_edits asked.removes even n entries makings))
     (length (merge_edits asked even n parent own entries makings)) (length-append (keep_edits asked.keeps parent) (replay_edits parent own ++ after_edits asked.removes even n entries makings))
-    (length-append (replay_edits parent own) (after_edits asked.removes even n entries makings)) (few_keeps asked.keeps parent) (few_replays (length own.items == 0) parent own) (few_after asked.removes even n entries makings)
+    (length-append (replay_edits parent own) (after_edits asked.removes even n entries makings)) (few_keeps asked.keeps parent) (few_replays (length own == 0) parent own) (few_after asked.removes even n entries makings)
   where
     few : (k r l rest all : ℕ) → all ≡ k + rest → rest ≡ r + l → k ≤ 1 → r ≤ 1 → l ≤ 3 → all ≤ 2048
     few k r l rest all e f a b c = omega (arith, e, f, a, b, c)
 
 -- ---- what is asked
 
-is_present : (none : Bool) (given entries : Vec NewEntry Global) → present none given ≡ Some entries → (none ≡ false) × (given ≡ entries)
+is_present : (none : Bool) (given entries : List NewEntry) → present none given ≡ Some entries → (none ≡ false) × (given ≡ entries)
 is_present true given entries is = absurd (cc)
 is_present false given entries is = (refl, cc)
 
-module _ (rs : List Stored) (m : ℕ) (xs : List Session) (session : Session) (asked : Asked) (workspace : List ℕ) (a b : Space) (c : Counters) (own entries : Vec NewEntry Global)
-    (merges : Merges rs m xs session asked workspace a b (map entry_of own.items) (map entry_of entries.items)) (may : MayMerge rs a (map entry_of own.items) (map entry_of entries.items))
-    (one : (parts_of rs).counters ≡ c ∷ []) (own_room : nat_lt counter_limit (b.log_length + length (map entry_of own.items)) ≡ false) (room : nat_lt counter_limit (a.log_length + length (map entry_of entries.items)) ≡ false) where
+module _ (rs : List Stored) (m : ℕ) (xs : List Session) (session : Session) (asked : Asked) (workspace : List ℕ) (a b : Space) (c : Counters) (own entries : List NewEntry)
+    (merges : Merges rs m xs session asked workspace a b (map entry_of own) (map entry_of entries)) (may : MayMerge rs a (map entry_of own) (map entry_of entries))
+    (one : (parts_of rs).counters ≡ c ∷ []) (own_room : nat_lt counter_limit (b.log_length + length (map entry_of own)) ≡ false) (room : nat_lt counter_limit (a.log_length + length (map entry_of entries)) ≡ false) where
   abbrev even : Bool
-  even = is_even_at a b (map entry_of own.items)
+  even = is_even_at a b (map entry_of own)
 
   rules : keep_rules (parts_of rs) ≡ true
   rules = merges.family.space.rules
 
-  clear : MergeClear asked (parts_of rs) xs a b (map entry_of own.items)
-  clear = merge_clear session asked (parts_of rs) xs a b merges.found (map entry_of own.items) merges.clear
+  clear : MergeClear asked (parts_of rs) xs a b (map entry_of own)
+  clear = merge_clear session asked (parts_of rs) xs a b merges.found (map entry_of own) merges.clear
 
   -- of the parent
-  replays : (given : Vec NewEntry Global) → present (length own.items == 0) own ≡ Some given → CanReplay (parts_of rs) b.number (map entry_of given.items)
+  replays : (given : List NewEntry) → present (length own == 0) own ≡ Some given → CanReplay (parts_of rs) b.number (map entry_of given)
   replays given is =
-      let two = is_present (length own.items == 0) own given is in
-      subst (λ (x : Vec NewEntry Global). CanReplay (parts_of rs) b.number (map entry_of x.items)) two.1
-      (can_replay (parts_of rs) m session.user c rules one merges.user (own_held (parts_of rs) a) (stores_own (parts_of rs) a) (map entry_of own.items) merges.own_listed may.own_ready (some_entries own.items two.0) b.number b
+      let two = is_present (length own == 0) own given is in
+      subst (λ (x : List NewEntry). CanReplay (parts_of rs) b.number (map entry_of x)) two.1
+      (can_replay (parts_of rs) m session.user c rules one merges.user (own_held (parts_of rs) a) (stores_own (parts_of rs) a) (map entry_of own) merges.own_listed may.own_ready (some_entries own two.0) b.number b
       (parent_there rs workspace a b merges.family) own_room)
 
   -- of the workspace
   removes : asked.removes ≡ true → CanRemove (parts_of rs) a.number
   removes goes =
       let going : going_refusal (parts_of rs) xs a ≡ None = sym (ap (λ (r : Bool). leaving_refusal r (parts_of rs) xs a) goes) ∙ clear.leaving in
-      let free : removing_refusal (parts_of rs) xs a ≡ None = ap (λ o. first_fault (o ∷ resolving_refusal xs a ∷ [])) going ∙ ap (λ o. first_fault (o ∷ [])) clear.resolving in
       record {
         some = merges.family.child;
         there = some_space (named_numbered rs workspace a merges.family.space);
-        childless = childless rs xs workspace a merges.family.space merges.family.child free;
+        childless = childless rs xs a rules merges.family.child going;
       }
     where
       some_space : {o : Option Space} → o ≡ Some a → is_some o ≡ true
@@ -159,7 +155,7 @@ module _ (rs : List Stored) (m : ℕ) (xs : List Session) (session : Session) (a
 
   rebases : not even ≡ true → CanRebase (parts_of rs) a.number true
   rebases odd =
-      let left = merge_left a b (map entry_of own.items) clear.rebasing (not-true even odd) in
+      let left = merge_left a b (map entry_of own) clear.rebasing (not-true even odd) in
       record {
         some = merges.family.child;
         space = a;
@@ -169,11 +165,11 @@ module _ (rs : List Stored) (m : ℕ) (xs : List Session) (session : Session) (a
         kept = λ stays. absurd (true≢false stays);
       }
 
-  gains : (given : Vec NewEntry Global) → present (length entries.items == 0) entries ≡ Some given → CanGain (parts_of rs) a.number (map entry_of given.items)
+  gains : (given : List NewEntry) → present (length entries == 0) entries ≡ Some given → CanGain (parts_of rs) a.number (map entry_of given)
   gains given is =
-      let two = is_present (length entries.items == 0) entries given is in
-      subst (λ (x : Vec NewEntry Global). CanGain (parts_of rs) a.number (map entry_of x.items)) two.1
-      (can_gain (parts_of rs) m session.user c rules one merges.user (gained_held (parts_of rs) a b) (stores_gained (parts_of rs) a b) (map entry_of entries.items) merges.gained_listed may.ready (some_entries entries.items two.0)
+      let two = is_present (length entries == 0) entries given is in
+      subst (λ (x : List NewEntry). CanGain (parts_of rs) a.number (map entry_of x)) two.1
+      (can_gain (parts_of rs) m session.user c rules one merges.user (gained_held (parts_of rs) a b) (stores_gained (parts_of rs) a b) (map entry_of entries) merges.gained_listed may.ready (some_entries entries two.0)
       a.number a (named_numbered rs workspace a merges.family.space) room)
 
   can : edited.CanMerge (parts_of rs) b.number a.number (merging asked even own entries)

@@ -1,13 +1,19 @@
 -- What the two calls do, by what is wrong with their arguments.
-use Rattle.std.proofs.Common.{◌≡◌, ℕ, List, [], None, Some, unwrap_or, sym, ap, ◌∙◌}
+use Rattle.std.proofs.Common.{◌≡◌, ℕ, List, [], Option, None, Some, unwrap_or, sym, ap, ◌∙◌}
 use Rattle.wm_syntax.specs.declared.statement.Arg.{Arg}
 use Rattle.wm_calls.specs.Arguments.{text_given}
 use Rattle.wm_calls.specs.Faults.{argument_fault}
 use Rattle.wm_grammar.specs.declared.procedure.Parameter.TheVariants as parameters
 use Rattle.wm_grammar.specs.declared.procedure.Procedure.TheVariants as procedures
-use Rattle.wm_model.specs.Step.{Asked, call, merge_asked, merge_workspace, mistyped, refresh_workspace}
-use Rattle.wm_space.proofs.Calling.{unless_none, unless_some}
+use Rattle.wm_model.specs.Step.{Asked, call, merge_asked, merge_workspace, mistyped, refresh_workspace, unless_mistyped}
+use Rattle.wm_print.specs.Texts.{Answer}
 use Rattle.wm_state.specs.State.{Session, State}
+
+unless_some : (fault : Option (List ℕ)) (parameter : List ℕ) (s : State) (done : State × Answer) → fault ≡ Some parameter → unless_mistyped fault s done ≡ (s, mistyped parameter)
+unless_some fault parameter s done some = ap (λ f. unless_mistyped f s done) some
+
+unless_none : (fault : Option (List ℕ)) (s : State) (done : State × Answer) → fault ≡ None → unless_mistyped fault s done ≡ done
+unless_none fault s done none = ap (λ f. unless_mistyped f s done) none
 
 -- ---- RefreshWorkspace
 

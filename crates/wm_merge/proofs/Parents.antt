@@ -6,7 +6,7 @@ use Rattle.wm_graph.specs.Parts.{parts_of, space_of}
 use Rattle.wm_rebased.proofs.RebasingFields.{parent_recorded}
 use Rattle.wm_spec.specs.declared.record.space.Space.{Space}
 use Rattle.wm_spec.specs.declared.record.stored.Stored.{Stored}
-use Rattle.wm_model.proofs.RollingLine.{named_numbered}
+use Rattle.wm_model.proofs.Recorded.{named_numbered}
 use Rattle.wm_model.specs.Merged.{NamesFamily}
 use Rattle.wm_model.specs.Undone.{NamesSpace}
 

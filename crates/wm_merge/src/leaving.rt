@@ -4,16 +4,37 @@ ghost use Rattle.std.specs.Prelude.{◌≡◌, true, IfOk};
 ghost use Rattle.wm_graph.specs.Parts.{parts_of};
 ghost use Rattle.wm_graph.specs.Rules.{keep_rules};
 ghost use Rattle.wm_model.specs.Merged.{keeping_refusal, leaving_refusal, naming_refusal};
+ghost use Rattle.wm_model.specs.Undone.{going_refusal};
 
 use std::alloc::Global;
 use wm_base::{Memory, Refusal};
 use wm_changes::names::implicit_name;
 use wm_image::Image;
-use wm_plan::refuse::{at_its_end, most_savepoints, savepoint_there};
+use wm_plan::refuse::{at_its_end, has_child, most_savepoints, savepoint_there};
 use wm_plan::session::Session;
-use wm_space::removing::going_refusal;
+use wm_space::removing::{first_inside, inside_refusal};
 use wm_space::saving::{SAVEPOINT_LIMIT, is_last};
 use wm_spec::record::Space;
+
+/// What a workspace that is to go is refused for: a session stands in it, or it has a child.
+fn going_refusal(
+    alloc: Global,
+    image: &Image,
+    sessions: &[Session],
+    space: &Space,
+) -> Result<Option<Refusal>, Memory>
+    requires rules { keep_rules (parts_of image.now) ≡ true }
+    ensures { IfOk result (λ fault. fault ≡ going_refusal (parts_of image.now) sessions.now space.now) }
+{
+    if let Some(session) = first_inside(sessions, space.number) {
+        return inside_refusal(alloc, space, session);
+    }
+    if let Some(child) = image.child_from(space.number, 0, 0) {
+        let child = has_child(space.name.copy(alloc)?, child.name.copy(alloc)?);
+        return Ok(child.into_refusal());
+    }
+    Ok(None)
+}
 
 /// What a merge that removes its workspace is refused for, as the removal alone would be.
 pub fn leaving_refusal(

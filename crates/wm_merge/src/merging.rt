@@ -38,7 +38,7 @@ use wm_plan::session::Session;
 use wm_plan::work::{is_long, is_spent};
 use wm_space::ending::ended;
 use wm_spec::record::Space;
-use wm_state::edit::{Edit, NewEntry};
+use wm_state::edit::{Edit, Entries, NewEntry};
 
 /// What a merge is asked to do besides: to keep the parent in an implicit savepoint first, and to remove the workspace
 /// behind it.
@@ -140,7 +140,7 @@ fn push_rebase(
     even: bool,
     gained: Vec<NewEntry>,
 ) -> Result<(), Memory>
-    ensures { OnOk result (edits.new.items ≡ edits.old.items ++ rebase_edits even space gained) }
+    ensures { OnOk result (edits.new.items ≡ edits.old.items ++ rebase_edits even space gained.items) }
 {
     if even {
         return Ok(());
@@ -161,7 +161,7 @@ fn push_after(
     gained: Vec<NewEntry>,
     makings: Vec<u64>,
 ) -> Result<(), Memory>
-    ensures { OnOk result (edits.new.items ≡ edits.old.items ++ after_edits removes even space gained makings.items) }
+    ensures { OnOk result (edits.new.items ≡ edits.old.items ++ after_edits removes even space gained.items makings.items) }
 {
     if removes {
         edits.push(Edit::Remove { space })?;
@@ -180,7 +180,7 @@ fn merge_edits(
     brought: Brought,
     makings: Vec<u64>,
 ) -> Result<Vec<Edit>, Memory>
-    ensures { IfOk result (λ edits. edits.items ≡ merge_edits (asked_view asked) even family.entry.space.now.number family.entry.parent.now.number brought.own brought.gained makings.items) }
+    ensures { IfOk result (λ edits. edits.items ≡ merge_edits (asked_view asked) even family.entry.space.now.number family.entry.parent.now.number brought.own.items brought.gained.items makings.items) }
 {
     let Brought { own, gained } = brought;
     let parent = family.parent.number;
@@ -191,7 +191,7 @@ fn merge_edits(
     if !own.is_empty() {
         edits.push(Edit::Replay {
             space: parent,
-            entries: own,
+            entries: Entries::from_vec(own),
         })?;
     }
     let space = family.space.number;
@@ -223,7 +223,7 @@ fn merge_with(
     requires moment { moment < END }
     ensures does { IfOk result (λ p. (xs : List SessionState) (session : SessionState) (workspace : List ℕ) → Merges image.now moment xs session (asked_view asked) workspace family.entry.space.now family.entry.parent.now (map entry_of brought.own.items) (map entry_of brought.gained.items) → DoesIt image.now xs moment p (merge_workspace session (asked_view asked) workspace)) }
     ensures idle { IfOk result Idles }
-    ensures edits { IfOk result (λ p. (p.edits.items ≡ []) ⊎ (p.edits.items ≡ merge_edits (asked_view asked) (is_even_at family.entry.space.now family.entry.parent.now (map entry_of brought.own.items)) family.entry.space.now.number family.entry.parent.now.number brought.own brought.gained (makings_of family.entry.space.now.number (parts_of image.now).locks))) }
+    ensures edits { IfOk result (λ p. (p.edits.items ≡ []) ⊎ (p.edits.items ≡ merge_edits (asked_view asked) (is_even_at family.entry.space.now family.entry.parent.now (map entry_of brought.own.items)) family.entry.space.now.number family.entry.parent.now.number brought.own.items brought.gained.items (makings_of family.entry.space.now.number (parts_of image.now).locks))) }
 {
     let even = is_even(family, brought.own.as_slice());
     let makings = makings_of(alloc, image, family.space.number)?;

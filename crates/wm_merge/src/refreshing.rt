@@ -38,7 +38,7 @@ use wm_plan::session::Session;
 use wm_plan::work::{is_long, is_spent};
 use wm_space::ending::ended;
 use wm_spec::record::Space;
-use wm_state::edit::{Edit, NewEntry};
+use wm_state::edit::{Edit, Entries, NewEntry};
 
 /// Whether a parent changed nothing since a workspace took its log.
 pub fn is_quiet(space: &Space, parent: &Space) -> bool
@@ -49,9 +49,10 @@ pub fn is_quiet(space: &Space, parent: &Space) -> bool
 
 /// Puts the edit by which the log of a workspace gains entries behind others, where there are any.
 pub fn push_gain(edits: &mut Vec<Edit>, space: u32, entries: Vec<NewEntry>) -> Result<(), Memory>
-    ensures { OnOk result (edits.new.items ≡ edits.old.items ++ gain_edits space entries) }
+    ensures { OnOk result (edits.new.items ≡ edits.old.items ++ gain_edits space entries.items) }
 {
     if !entries.is_empty() {
+        let entries = Entries::from_vec(entries);
         edits.push(Edit::Gain { space, entries })?;
     }
     Ok(())
@@ -101,7 +102,7 @@ fn quiet_answer(refusal: Option<Refusal>) -> Answer
 
 /// The edits of a refresh.
 fn refresh_edits(alloc: Global, space: &Space, entries: Vec<NewEntry>) -> Result<Vec<Edit>, Memory>
-    ensures { IfOk result (λ edits. edits.items ≡ refresh_edits space.now.number entries) }
+    ensures { IfOk result (λ edits. edits.items ≡ refresh_edits space.now.number entries.items) }
 {
     let mut edits = Vec::new(alloc);
     edits.push(Edit::Rebase {
@@ -126,7 +127,7 @@ fn refresh_with(
     requires own { AreOwn (parts_of image.now) space.now (map key_pieces own.now) }
     ensures does { IfOk result (λ p. (xs : List SessionState) (session : SessionState) (workspace : List ℕ) (parent : SpaceRecord) → Refreshes image.now moment xs session workspace space.now parent (map entry_of entries.items) → DoesIt image.now xs moment p (refresh_workspace session workspace)) }
     ensures idle { IfOk result Idles }
-    ensures edits { IfOk result (λ p. (p.edits.items ≡ []) ⊎ (p.edits.items ≡ refresh_edits space.now.number entries)) }
+    ensures edits { IfOk result (λ p. (p.edits.items ≡ []) ⊎ (p.edits.items ≡ refresh_edits space.now.number entries.items)) }
 {
     if is_long(space.log_length, entries.as_slice()) {
         return ended(alloc, b"LOG");

@@ -1,16 +1,12 @@
 -- A line that is refused for one more reason does what its plan does that knows of the reason.
-use Rattle.std.proofs.Common.{◌≡◌, ℕ, Bool, true, false, cond, List, Option, Some, None, refl, sym, ap, ◌∙◌}
+use Rattle.std.proofs.Common.{◌≡◌, ℕ, Bool, true, false, cond, List, Option, Some, None, refl, ap, ◌∙◌}
 use Rattle.wm_base.specs.declared.refusal.Refusal.{Refusal}
-use Rattle.wm_graph.specs.Parts.{parts_of}
-use Rattle.wm_outline.proofs.Outlines.{outline_is}
-use Rattle.wm_outline.specs.Outline.{outline, outline_of}
 use Rattle.wm_print.specs.Texts.{Answer, Refused}
 use Rattle.wm_spec.specs.declared.record.stored.Stored.{Stored}
 use Rattle.wm_state.specs.State.{Session, State}
 use Rattle.wm_state.specs.declared.edit.Edit.{Edit}
-use Rattle.wm_syntax.specs.Trees.{Statement}
 use Rattle.wm_model.specs.Planning.{Does, Seating, StandsAt}
-use Rattle.wm_model.specs.Step.{Outcome, barred, barred_outcome, frozen_fault, is_before, refused_with, run_statement, statement_done}
+use Rattle.wm_model.specs.Step.{Outcome, barred, barred_outcome, is_before, refused_with}
 use Rattle.wm_model.proofs.Doing.{does_nothing}
 
 -- fault: what the line is refused for besides, which the records tell
@@ -36,10 +32,3 @@ does_barred rs xs m edits seating answer act fault (Some r) does same = by_answe
     by_answer : (b : Bool) → is_before answer r ≡ b → let o = cond b plan (refused_with r) in Does rs xs m o.edits o.seating o.answer (λ s. barred (fault s) s (act s))
     by_answer true is = record { can = does.can; seats = does.seats; does = λ s st. told s st true is ∙ does.does s st }
     by_answer false is = does_nothing rs xs m (Refused r) (λ s. barred (fault s) s (act s)) (λ s st. told s st false is)
-
--- so does each statement, which a frozen workspace may refuse
-pub does_run : (rs : List Stored) (xs : List Session) (m : ℕ) (session : Session) (statement : Statement) (edits : List Edit) (seating : Seating) (answer : Answer) → Does rs xs m edits seating answer (statement_done session statement)
-    → let o = barred_outcome (frozen_fault session statement (outline_of (parts_of rs) xs m)) (record { edits = edits; seating = seating; answer = answer }) in Does rs xs m o.edits o.seating o.answer (run_statement session statement)
-does_run rs xs m session statement edits seating answer does =
-    does_barred rs xs m edits seating answer (statement_done session statement) (λ s. frozen_fault session statement (outline s)) (frozen_fault session statement (outline_of (parts_of rs) xs m)) does
-    (λ s st. ap (frozen_fault session statement) (sym (outline_is (parts_of rs) xs m s st.stands st.sessions_are st.moment_is)))

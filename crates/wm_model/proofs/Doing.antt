@@ -1,15 +1,15 @@
 -- What plans do to each state that the engine stands for: what all of them have in common.
-use Rattle.std.proofs.Common.{arith, ◌≡◌, ℕ, ◌+◌, nat_lt, true, false, List, [], ◌∷◌, refl, sym, ap, ◌∙◌, codes}
+use Rattle.std.proofs.Common.{◌≡◌, ℕ, ◌+◌, nat_lt, true, false, List, [], ◌∷◌, Some, None, refl, sym, ap, ◌∙◌, codes}
 use Rattle.wm_graph.specs.Parts.{parts_of}
+use Rattle.wm_graph.specs.Rules.{keep_rules}
 use Rattle.wm_print.specs.Texts.{Answer}
 use Rattle.wm_spec.specs.declared.record.counters.Counters.{Counters}
 use Rattle.wm_spec.specs.declared.record.stored.Stored.{Stored}
-use Rattle.wm_state.specs.Drafts.{CanEdit, CanWork}
-use Rattle.wm_state.specs.Editing.{drafted, edited, work_of}
 use Rattle.wm_state.specs.State.{Session, State}
 use Rattle.wm_state.specs.declared.edit.Edit.{Edit}
 use Rattle.wm_state.proofs.Counting.{CountsAs, counts_as as counted_as}
-use Rattle.wm_model.specs.Step.{durably, durably_by, counter_limit, line_work, at_its_end}
+use Rattle.wm_syntax.specs.Trees.{Statement}
+use Rattle.wm_model.specs.Step.{at_its_end, counter_limit, durably, durably_by, line_work, no_session, run_for, run_statement, session_of}
 use Rattle.wm_model.specs.Planning.{StandsAt, Does, Seating, SeatsStaged, Stay, seated}
 
 -- ---- nothing changes
@@ -27,21 +27,23 @@ does_seat rs xs m seating answer act staged same = record {
   does = λ s st. same s st ∙ ap (λ n. (record s { sessions = seated s.sessions seating; moment = n }, answer)) (sym st.moment_is);
 }
 
--- one edit is made, and something becomes of the sessions
-pub does_edit_seat : (rs : List Stored) (xs : List Session) (m : ℕ) (e : Edit) (seating : Seating) (answer : Answer) (act : State → State × Answer) → SeatsStaged (parts_of rs) seating → CanWork (parts_of rs) m (work_of (e ∷ []))
-    → CanEdit (parts_of rs) m e
-    → ((s : State) → StandsAt rs xs m s → act s ≡ (record s { durable = record (edited m e s.durable) { last_moment = m; work = s.durable.work + work_of (e ∷ []) }; sessions = seated s.sessions seating }, answer))
-    → Does rs xs m (e ∷ []) seating answer act
-does_edit_seat rs xs m e seating answer act staged work can same = record {
-  can = (work, omega arith, (can, λ given changes drafts. tt));
-  seats = staged;
-  does = λ s st. same s st ∙ ap (λ n. (record s { durable = drafted m (e ∷ []) s.durable; sessions = seated s.sessions seating; moment = n }, answer)) (sym st.moment_is);
-}
+-- what is done by one function is done by another that does the same to each state
+pub does_alike : (rs : List Stored) (xs : List Session) (m : ℕ) (es : List Edit) (seating : Seating) (answer : Answer) (act also : State → State × Answer) → ((s : State) → StandsAt rs xs m s → also s ≡ act s)
+    → Does rs xs m es seating answer act → Does rs xs m es seating answer also
+does_alike rs xs m es seating answer act also same does = record { can = does.can; seats = does.seats; does = λ s st. same s st ∙ does.does s st }
 
--- one edit is made alone
-pub does_edit : (rs : List Stored) (xs : List Session) (m : ℕ) (e : Edit) (answer : Answer) (act : State → State × Answer) → CanWork (parts_of rs) m (work_of (e ∷ [])) → CanEdit (parts_of rs) m e
-    → ((s : State) → StandsAt rs xs m s → act s ≡ (record s { durable = record (edited m e s.durable) { last_moment = m; work = s.durable.work + work_of (e ∷ []) } }, answer)) → Does rs xs m (e ∷ []) Stay answer act
-does_edit rs xs m e answer act work can same = does_edit_seat rs xs m e Stay answer act tt work can same
+-- ---- a statement of a session
+
+pub run_none : (rs : List Stored) (xs : List Session) (m : ℕ) (name : List ℕ) (statement : Statement) → keep_rules (parts_of rs) ≡ true → session_of name xs ≡ None
+    → Does rs xs m [] Stay (no_session name) (λ s. run_for name (session_of name s.sessions) statement s)
+run_none rs xs m name statement rules none =
+    does_nothing rs xs m (no_session name) (λ s. run_for name (session_of name s.sessions) statement s) (λ s st. ap (λ o. run_for name o statement s) (ap (session_of name) (sym st.sessions_are) ∙ none))
+
+pub run_some : (rs : List Stored) (xs : List Session) (m : ℕ) (name : List ℕ) (session : Session) (statement : Statement) (es : List Edit) (seating : Seating) (answer : Answer) → session_of name xs ≡ Some session
+    → Does rs xs m es seating answer (run_statement session statement) → Does rs xs m es seating answer (λ s. run_for name (session_of name s.sessions) statement s)
+run_some rs xs m name session statement es seating answer some does =
+    does_alike rs xs m es seating answer (run_statement session statement) (λ s. run_for name (session_of name s.sessions) statement s)
+    (λ s st. ap (λ o. run_for name o statement s) (ap (session_of name) (sym st.sessions_are) ∙ some)) does
 
 -- ---- what is counted
 

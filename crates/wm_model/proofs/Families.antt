@@ -33,7 +33,7 @@ use Rattle.wm_model.specs.Undone.{NamesSpace}
 use Rattle.wm_model.proofs.Doing.{does_nothing}
 use Rattle.wm_model.proofs.Lawful.Nets.{sound_stamped}
 use Rattle.wm_model.proofs.Lawful.Spaces.{number_is}
-use Rattle.wm_model.proofs.RollingLine.{home}
+use Rattle.wm_model.proofs.Recorded.{home}
 use Rattle.wm_model.proofs.Telling.{holds_base, rows_base}
 
 -- ---- lines over a workspace and its parent

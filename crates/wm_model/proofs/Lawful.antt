@@ -4,8 +4,11 @@ pub mod Saving
 pub mod Spaces
 pub mod Entries
 pub mod Rows
-pub mod Leaves
 pub mod Firsts
+pub mod Leaves
+pub mod Plans
+pub mod Edits
+pub mod Calls
 pub mod Undoing
 pub mod Nets
 pub mod Rebasing

@@ -1,8 +1,5 @@
 pub mod Cutting
 pub mod Running
-pub mod Creating
-pub mod Enabling
-pub mod Going
 pub mod Steps
 pub mod Doing
 pub mod Barring
@@ -16,16 +13,11 @@ pub mod Reading
 pub mod Differing
 pub mod Looking
 pub mod Selecting
-pub mod SavingLine
-pub mod BearingLine
-pub mod Seating
 pub mod Timing
 pub mod Filled
 pub mod Lawful
 pub mod Telling
-pub mod FirstChild
-pub mod RollingLine
-pub mod RemovingLine
+pub mod Recorded
 pub mod Families
 pub mod MergedLocks
 pub mod MergedEdits

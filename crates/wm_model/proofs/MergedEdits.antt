@@ -3,8 +3,6 @@ use Rattle.std.proofs.Common.{arith, ◌≡◌, ◌≢◌, ℕ, suc, not, ◌==�
 use Rattle.std.proofs.lemmas.Bool.{eq-eqb, ne_eqb}
 use Rattle.std.specs.List.{filter}
 use Rattle.std.specs.Option.{option_and_then, option_map}
-use Rattle.std.specs.declared.alloc.Global.{Global}
-use Rattle.std.specs.declared.vec.Vec.{Vec}
 use Rattle.wm_spec.specs.Lists.{Entry}
 use Rattle.wm_spec.specs.declared.record.lock.Lock.{Lock}
 use Rattle.wm_state.specs.Editing.{all_edited, entry_of, gained_in, implicit_name, keep_in, kept_in, locks_by, locks_in, parent_of, rebased, rebased_in, rebased_so, replayed_in, stays_locked, unlocked, unlocked_of, without}
@@ -88,23 +86,23 @@ none_mapped : (xs : List NewEntry) → (length xs == 0) ≡ true → map entry_o
 none_mapped xs none = ap (map entry_of) (nothing_listed xs none)
 
 -- entries that a log gains
-pub all_gained : (m n : ℕ) (entries : Vec NewEntry Global) (d : Durable) → all_edited m (gain_edits n entries) d ≡ gained_in n (map entry_of entries.items) d
-all_gained m n entries d = by_test (length entries.items == 0) refl
+pub all_gained : (m n : ℕ) (entries : List NewEntry) (d : Durable) → all_edited m (gain_edits n entries) d ≡ gained_in n (map entry_of entries) d
+all_gained m n entries d = by_test (length entries == 0) refl
   where
-    by_test : (b : Bool) → (length entries.items == 0) ≡ b → all_edited m (cond b [] (edits.Gain n entries ∷ [])) d ≡ gained_in n (map entry_of entries.items) d
+    by_test : (b : Bool) → (length entries == 0) ≡ b → all_edited m (cond b [] (edits.Gain n entries ∷ [])) d ≡ gained_in n (map entry_of entries) d
     by_test true none =
         ap (λ (ws : List Workspace). record d { spaces = ws })
-        (sym (with_space-same n (with_gained (map entry_of entries.items)) (λ w. append_none (map entry_of entries.items) w (none_mapped entries.items none)) d.spaces))
+        (sym (with_space-same n (with_gained (map entry_of entries)) (λ w. append_none (map entry_of entries) w (none_mapped entries none)) d.spaces))
     by_test false some = refl
 
 -- entries that come into a workspace again
-pub all_replayed : (m n : ℕ) (entries : Vec NewEntry Global) (d : Durable) → all_edited m (replay_edits n entries) d ≡ replayed_in n (map entry_of entries.items) d
-all_replayed m n entries d = by_test (length entries.items == 0) refl
+pub all_replayed : (m n : ℕ) (entries : List NewEntry) (d : Durable) → all_edited m (replay_edits n entries) d ≡ replayed_in n (map entry_of entries) d
+all_replayed m n entries d = by_test (length entries == 0) refl
   where
-    by_test : (b : Bool) → (length entries.items == 0) ≡ b → all_edited m (cond b [] (edits.Replay n entries ∷ [])) d ≡ replayed_in n (map entry_of entries.items) d
+    by_test : (b : Bool) → (length entries == 0) ≡ b → all_edited m (cond b [] (edits.Replay n entries ∷ [])) d ≡ replayed_in n (map entry_of entries) d
     by_test true none =
         ap (λ (ws : List Workspace). record d { spaces = ws })
-        (sym (with_space-same n (with_entries (map entry_of entries.items)) (λ w. append_none_own (map entry_of entries.items) w (none_mapped entries.items none)) d.spaces))
+        (sym (with_space-same n (with_entries (map entry_of entries)) (λ w. append_none_own (map entry_of entries) w (none_mapped entries none)) d.spaces))
     by_test false some = refl
 
 -- locks that go
@@ -128,8 +126,8 @@ has_parent : (ws : List Workspace) (n : ℕ) (w q : Workspace) → workspace_of 
 has_parent ws n w q found above = record { parent = q; is = ap (option_and_then (λ (v : Workspace). workspace_of ws v.parent)) found ∙ above; same = λ emptied v. refl }
 
 -- a rebase and what the log gains then, where nothing is gained too
-rebased_gained : (m n : ℕ) (emptied : Bool) (q : Workspace) (entries : Vec NewEntry Global) (d : Durable) → HasParent d.spaces n q
-    → all_edited m (edits.Rebase n emptied ∷ gain_edits n entries) d ≡ record d { spaces = with_space n (λ v. rebased emptied q (with_gained (map entry_of entries.items) v)) d.spaces }
+rebased_gained : (m n : ℕ) (emptied : Bool) (q : Workspace) (entries : List NewEntry) (d : Durable) → HasParent d.spaces n q
+    → all_edited m (edits.Rebase n emptied ∷ gain_edits n entries) d ≡ record d { spaces = with_space n (λ v. rebased emptied q (with_gained (map entry_of entries) v)) d.spaces }
 rebased_gained m n emptied q entries d has =
     all_gained m n entries (rebased_so n emptied d)
     ∙ ap (λ (o : Option Workspace). gained_in n es (unwrap_or (option_map (rebased_in n emptied d) o) d)) has.is
@@ -137,12 +135,12 @@ rebased_gained m n emptied q entries d has =
     ∙ ap (λ (act : Workspace → Workspace). record d { spaces = with_space n act d.spaces }) (λ i v. has.same emptied (with_gained es v) i)
   where
     es : List Entry
-    es = map entry_of entries.items
+    es = map entry_of entries
 
 -- ---- a refresh
 
-pub all_refreshed : (m : ℕ) (w q : Workspace) (entries : Vec NewEntry Global) (d : Durable) → workspace_of d.spaces w.number ≡ Some w → workspace_of d.spaces w.parent ≡ Some q
-    → all_edited m (refresh_edits w.number entries) d ≡ record d { spaces = with_space w.number (refreshed (map entry_of entries.items) q) d.spaces }
+pub all_refreshed : (m : ℕ) (w q : Workspace) (entries : List NewEntry) (d : Durable) → workspace_of d.spaces w.number ≡ Some w → workspace_of d.spaces w.parent ≡ Some q
+    → all_edited m (refresh_edits w.number entries) d ≡ record d { spaces = with_space w.number (refreshed (map entry_of entries) q) d.spaces }
 all_refreshed m w q entries d found above = rebased_gained m w.number false q entries d (has_parent d.spaces w.number w q found above)
 
 -- ---- a merge
@@ -210,27 +208,27 @@ module _ (m : ℕ) (w q : Workspace) (d : Durable) (found : workspace_of d.space
   replayed_none own e none = ap (λ (ws : List Workspace). record e { spaces = ws }) (with_space-same q.number (with_entries own) (λ v. append_none_own own v none) e.spaces)
 
   -- the workspace on its parent
-  all_rebased : (even : Bool) (own : List Entry) (entries : Vec NewEntry Global) (e : Durable) → Kept e.spaces → (even ≡ true → own ≡ [])
-      → all_edited m (rebase_edits even w.number entries) (replayed_in q.number own e) ≡ (if even then e else merged own (map entry_of entries.items) q w e)
+  all_rebased : (even : Bool) (own : List Entry) (entries : List NewEntry) (e : Durable) → Kept e.spaces → (even ≡ true → own ≡ [])
+      → all_edited m (rebase_edits even w.number entries) (replayed_in q.number own e) ≡ (if even then e else merged own (map entry_of entries) q w e)
   all_rebased true own entries e k none = replayed_none own e (none refl)
   all_rebased false own entries e k none = rebased_gained m w.number true (with_entries own q) entries (replayed_in q.number own e) (has_merged own e k)
 
   -- what comes behind
-  all_after : (removes even : Bool) (own : List Entry) (entries : Vec NewEntry Global) (makings : List ℕ) (e : Durable) → Kept e.spaces → (even ≡ true → own ≡ []) → filter (stays_locked makings) e.locks ≡ unlocked_of w.number e.locks
-      → all_edited m (after_edits removes even w.number entries makings) (replayed_in q.number own e) ≡ left_so removes w.number (if even then e else merged own (map entry_of entries.items) q w e)
+  all_after : (removes even : Bool) (own : List Entry) (entries : List NewEntry) (makings : List ℕ) (e : Durable) → Kept e.spaces → (even ≡ true → own ≡ []) → filter (stays_locked makings) e.locks ≡ unlocked_of w.number e.locks
+      → all_edited m (after_edits removes even w.number entries makings) (replayed_in q.number own e) ≡ left_so removes w.number (if even then e else merged own (map entry_of entries) q w e)
   all_after true true own entries makings e k none goes = ap (left_so true w.number) (replayed_none own e (none refl))
   all_after true false own entries makings e k none goes =
       ap (λ (ws : List Workspace). record e { spaces = ws; locks = unlocked_of w.number e.locks })
-      (sym (without-changed w.number (λ v. rebased true (with_entries own q) (with_gained (map entry_of entries.items) v)) (λ v. refl) (with_space q.number (with_entries own) e.spaces)))
+      (sym (without-changed w.number (λ v. rebased true (with_entries own q) (with_gained (map entry_of entries) v)) (λ v. refl) (with_space q.number (with_entries own) e.spaces)))
   all_after false even own entries makings e k none goes =
       all_edited_append m (rebase_edits even w.number entries) (unlock_edits makings) (replayed_in q.number own e)
       ∙ ap (all_edited m (unlock_edits makings)) (all_rebased even own entries e k none)
-      ∙ all_unlocked m makings (if even then e else merged own (map entry_of entries.items) q w e)
+      ∙ all_unlocked m makings (if even then e else merged own (map entry_of entries) q w e)
       ∙ by_even even
     where
-      by_even : (b : Bool) → unlocked makings (if b then e else merged own (map entry_of entries.items) q w e) ≡ left_so false w.number (if b then e else merged own (map entry_of entries.items) q w e)
+      by_even : (b : Bool) → unlocked makings (if b then e else merged own (map entry_of entries) q w e) ≡ left_so false w.number (if b then e else merged own (map entry_of entries) q w e)
       by_even true = ap (λ (xs : List Lock). record e { locks = xs }) goes
-      by_even false = ap (λ (xs : List Lock). record (merged own (map entry_of entries.items) q w e) { locks = xs }) goes
+      by_even false = ap (λ (xs : List Lock). record (merged own (map entry_of entries) q w e) { locks = xs }) goes
 
   -- a savepoint more leaves the locks
   kept_locks : (keeps : Bool) → (kept_first keeps m q d).locks ≡ d.locks
@@ -238,24 +236,24 @@ module _ (m : ℕ) (w q : Workspace) (d : Durable) (found : workspace_of d.space
   kept_locks true = ap (λ (o : Option Workspace). (unwrap_or (option_and_then (keep_in m d) o) d).locks) above
 
   -- where locks of these makings are those of the workspace
-  pub all_merged : (asked : Asked) (even : Bool) (own entries : Vec NewEntry Global) (makings : List ℕ) → (even ≡ true → map entry_of own.items ≡ []) → filter (stays_locked makings) d.locks ≡ unlocked_of w.number d.locks
-      → all_edited m (merge_edits asked even w.number q.number own entries makings) d ≡ merged_by asked even m (map entry_of own.items) (map entry_of entries.items) q w d
+  pub all_merged : (asked : Asked) (even : Bool) (own entries : List NewEntry) (makings : List ℕ) → (even ≡ true → map entry_of own ≡ []) → filter (stays_locked makings) d.locks ≡ unlocked_of w.number d.locks
+      → all_edited m (merge_edits asked even w.number q.number own entries makings) d ≡ merged_by asked even m (map entry_of own) (map entry_of entries) q w d
   all_merged asked even own entries makings none goes =
       all_kept asked.keeps (replay_edits q.number own ++ after_edits asked.removes even w.number entries makings)
       ∙ all_edited_append m (replay_edits q.number own) (after_edits asked.removes even w.number entries makings) (kept_first asked.keeps m q d)
       ∙ ap (all_edited m (after_edits asked.removes even w.number entries makings)) (all_replayed m q.number own (kept_first asked.keeps m q d))
-      ∙ all_after asked.removes even (map entry_of own.items) entries makings (kept_first asked.keeps m q d) (kept asked.keeps) none
+      ∙ all_after asked.removes even (map entry_of own) entries makings (kept_first asked.keeps m q d) (kept asked.keeps) none
       (ap (filter (stays_locked makings)) (kept_locks asked.keeps) ∙ goes ∙ sym (ap (unlocked_of w.number) (kept_locks asked.keeps)))
 
 -- none of the edits locks
-gain_lockless : (n : ℕ) (entries : Vec NewEntry Global) → locks_in (gain_edits n entries) ≡ 0
-gain_lockless n entries = by_test (length entries.items == 0)
+gain_lockless : (n : ℕ) (entries : List NewEntry) → locks_in (gain_edits n entries) ≡ 0
+gain_lockless n entries = by_test (length entries == 0)
   where
     by_test : (b : Bool) → locks_in (cond b [] (edits.Gain n entries ∷ [])) ≡ 0
     by_test true = refl
     by_test false = refl
 
-pub refresh_lockless : (n : ℕ) (entries : Vec NewEntry Global) → locks_in (refresh_edits n entries) ≡ 0
+pub refresh_lockless : (n : ℕ) (entries : List NewEntry) → locks_in (refresh_edits n entries) ≡ 0
 refresh_lockless n entries = ap (λ k. 0 + k) (gain_lockless n entries)
 
 unlock_lockless : (makings : List ℕ) → locks_in (unlock_edits makings) ≡ 0
@@ -270,10 +268,10 @@ lockless_append (e ∷ es) fs none more = let h = both (locks_by e) (locks_in es
     both : (j k : ℕ) → j + k ≡ 0 → (j ≡ 0) × (k ≡ 0)
     both j k e = (omega (arith, e), omega (arith, e))
 
-pub merge_lockless : (asked : Asked) (even : Bool) (n parent : ℕ) (own entries : Vec NewEntry Global) (makings : List ℕ) → locks_in (merge_edits asked even n parent own entries makings) ≡ 0
+pub merge_lockless : (asked : Asked) (even : Bool) (n parent : ℕ) (own entries : List NewEntry) (makings : List ℕ) → locks_in (merge_edits asked even n parent own entries makings) ≡ 0
 merge_lockless asked even n parent own entries makings =
     lockless_append (keep_edits asked.keeps parent) (replay_edits parent own ++ after_edits asked.removes even n entries makings) (by_keeps asked.keeps)
-    (lockless_append (replay_edits parent own) (after_edits asked.removes even n entries makings) (by_own (length own.items == 0)) (by_removes asked.removes))
+    (lockless_append (replay_edits parent own) (after_edits asked.removes even n entries makings) (by_own (length own == 0)) (by_removes asked.removes))
   where
     by_keeps : (b : Bool) → locks_in (keep_edits b parent) ≡ 0
     by_keeps true = refl
@@ -292,7 +290,7 @@ merge_lockless asked even n parent own entries makings =
     by_removes false = lockless_append (rebase_edits even n entries) (unlock_edits makings) (by_even even) (unlock_lockless makings)
 
 -- a merge that does anything makes an edit
-pub merge_some : (asked : Asked) (even : Bool) (n k : ℕ) (own entries : Vec NewEntry Global) (makings : List ℕ) → is_idle_at asked even makings ≡ false → merge_edits asked even n k own entries makings ≡ [] → ⊥
+pub merge_some : (asked : Asked) (even : Bool) (n k : ℕ) (own entries : List NewEntry) (makings : List ℕ) → is_idle_at asked even makings ≡ false → merge_edits asked even n k own entries makings ≡ [] → ⊥
 merge_some asked even n k own entries makings some none = by_asked asked.keeps asked.removes even makings some (replay_edits k own) none
   where
     behind : (front : List Edit) (e : Edit) (back : List Edit) → front ++ e ∷ back ≡ [] → ⊥

@@ -24,8 +24,7 @@ use Rattle.wm_model.specs.Step.{Asked, Claim, at_its_end, cells_of, first_fault,
 use Rattle.wm_model.specs.Undone.{going_refusal, resolving_refusal}
 use Rattle.wm_model.proofs.Families.{Family, conflict_same, own_same, quiet_same}
 use Rattle.wm_model.proofs.MergedLocks.{lock_fault-alike}
-use Rattle.wm_model.proofs.RemovingLine.{going_same}
-use Rattle.wm_model.proofs.RollingLine.{resolving_same}
+use Rattle.wm_model.proofs.Recorded.{going_same, resolving_same}
 
 module _ (rs : List Stored) (workspace : List ℕ) (a b : Space) (xs : List Session) (m : ℕ) (s : State) (st : StandsAt rs xs m s) (f : Family rs workspace a b s) where
   -- the name of the implicit savepoint that comes next in the parent

@@ -3,8 +3,6 @@ use Rattle.std.proofs.Common.{◌≡◌, ℕ, ◌+◌, ◌==◌, ◌&&◌, ◌||
 use Rattle.std.proofs.lemmas.Bool.{and_from, and_parts, true≢false}
 use Rattle.std.specs.List.{find, list_all, list_any}
 use Rattle.std.specs.Str.{bytes_eq}
-use Rattle.std.specs.declared.alloc.Global.{Global}
-use Rattle.std.specs.declared.vec.Vec.{Vec}
 use Rattle.wm_base.specs.declared.refusal.Refusal.{Refusal as Fault}
 use Rattle.wm_graph.specs.Parts.{parts_of}
 use Rattle.wm_graph.specs.Rules.{keep_rules}
@@ -137,33 +135,33 @@ freeing_seats asked n w xs is = ap (λ k. cond asked.removes (map (thawed k) xs)
     by_removes true = refl
     by_removes false = refl
 
-pub does_merge : (rs : List Stored) (xs : List Session) (m : ℕ) (session : Session) (workspace : List ℕ) (asked : Asked) (a b : Space) (c : Counters) (own es : Vec NewEntry Global)
-    → Merges rs m xs session asked workspace a b (map entry_of own.items) (map entry_of es.items) → is_idle_at asked (is_even_at a b (map entry_of own.items)) (makings_of a.number (parts_of rs).locks) ≡ false
-    → CanDraft rs m (merge_edits asked (is_even_at a b (map entry_of own.items)) a.number b.number own es (makings_of a.number (parts_of rs).locks)) → nat_lt counter_limit (longer_log_at a b (map entry_of own.items) (map entry_of es.items)) ≡ false
+pub does_merge : (rs : List Stored) (xs : List Session) (m : ℕ) (session : Session) (workspace : List ℕ) (asked : Asked) (a b : Space) (c : Counters) (own es : List NewEntry)
+    → Merges rs m xs session asked workspace a b (map entry_of own) (map entry_of es) → is_idle_at asked (is_even_at a b (map entry_of own)) (makings_of a.number (parts_of rs).locks) ≡ false
+    → CanDraft rs m (merge_edits asked (is_even_at a b (map entry_of own)) a.number b.number own es (makings_of a.number (parts_of rs).locks)) → nat_lt counter_limit (longer_log_at a b (map entry_of own) (map entry_of es)) ≡ false
     → (parts_of rs).counters ≡ c ∷ [] → nat_lt counter_limit (c.work + line_work) ≡ false
-    → Does rs xs m (merge_edits asked (is_even_at a b (map entry_of own.items)) a.number b.number own es (makings_of a.number (parts_of rs).locks)) (freeing asked a.number) Fine (merge_workspace session asked workspace)
+    → Does rs xs m (merge_edits asked (is_even_at a b (map entry_of own)) a.number b.number own es (makings_of a.number (parts_of rs).locks)) (freeing asked a.number) Fine (merge_workspace session asked workspace)
 does_merge rs xs m session workspace asked a b c own es r some can short one spare =
     does_edits rs xs m (merge_edits asked even a.number b.number own es makings) (freeing asked a.number) Fine (merge_workspace session asked workspace) (freeing_staged rs asked a.number) can
     (merge_some asked even a.number b.number own es makings some) (merge_lockless asked even a.number b.number own es makings)
     (λ s st. let f = family rs xs m workspace a b s r.family st in
-    merges rs xs m session workspace asked a b (map entry_of own.items) (map entry_of es.items) false s r st f some
-    ∙ not_spent_at rs xs m s (longer_log_at a b (map entry_of own.items) (map entry_of es.items)) c (merged_state asked even m s f.q f.w (map entry_of own.items) (map entry_of es.items)) st one short spare
+    merges rs xs m session workspace asked a b (map entry_of own) (map entry_of es) false s r st f some
+    ∙ not_spent_at rs xs m s (longer_log_at a b (map entry_of own) (map entry_of es)) c (merged_state asked even m s f.q f.w (map entry_of own) (map entry_of es)) st one short spare
     ∙ ap (λ (d : Durable). (record s { durable = record d { last_moment = m; work = s.durable.work + line_work }; sessions = freed_by asked f.w s.sessions }, Fine)) (sym (made s st f))
     ∙ ap (λ (ys : List Session). (record s { durable = record (all_edited m (merge_edits asked even a.number b.number own es makings) s.durable) { last_moment = m; work = s.durable.work + line_work }; sessions = ys }, Fine))
     (freeing_seats asked a.number f.w s.sessions f.is.number))
   where
     even : Bool
-    even = is_even_at a b (map entry_of own.items)
+    even = is_even_at a b (map entry_of own)
 
     makings : List ℕ
     makings = makings_of a.number (parts_of rs).locks
 
     made : (s : State) (st : StandsAt rs xs m s) (f : Family rs workspace a b s)
-        → all_edited m (merge_edits asked even a.number b.number own es makings) s.durable ≡ merged_by asked even m (map entry_of own.items) (map entry_of es.items) f.q f.w s.durable
+        → all_edited m (merge_edits asked even a.number b.number own es makings) s.durable ≡ merged_by asked even m (map entry_of own) (map entry_of es) f.q f.w s.durable
     made s st f =
         ap (λ n. all_edited m (merge_edits asked even n b.number own es makings) s.durable) (sym f.is.number)
         ∙ ap (λ k. all_edited m (merge_edits asked even f.w.number k own es makings) s.durable) (sym f.above.number)
         ∙ all_merged m f.w f.q s.durable (ap (workspace_of s.durable.spaces) f.is.number ∙ f.is.found) (ap (workspace_of s.durable.spaces) f.above.number ∙ f.above.found) f.parent
         (λ same. absurd (omega (arith, same, f.older))) asked even own es makings
-        (λ is. nothing_listed (map entry_of own.items) (and_parts (length (map entry_of own.items) == 0) (is_quiet_at a b) is).0)
+        (λ is. nothing_listed (map entry_of own) (and_parts (length (map entry_of own) == 0) (is_quiet_at a b) is).0)
         (unlocked_same (parts_of rs) s.durable a.number st.stands ∙ ap (λ n. unlocked_of n s.durable.locks) (sym f.is.number))

@@ -5,8 +5,6 @@ use Rattle.std.proofs.lemmas.Bool.{and_from, true≢false}
 use Rattle.std.specs.Bool.{then_some}
 use Rattle.std.specs.List.{find, list_all, list_any}
 use Rattle.std.specs.Str.{bytes_eq}
-use Rattle.std.specs.declared.alloc.Global.{Global}
-use Rattle.std.specs.declared.vec.Vec.{Vec}
 use Rattle.wm_base.specs.declared.refusal.Refusal.{Refusal as Fault}
 use Rattle.wm_graph.specs.Parts.{parts_of}
 use Rattle.wm_graph.specs.Rules.{keep_rules}
@@ -31,7 +29,7 @@ use Rattle.wm_model.specs.Undone.{NamesSpace, resolving_refusal}
 use Rattle.wm_model.proofs.Doing.{does_nothing, not_spent_at, spent_at, spent_log}
 use Rattle.wm_model.proofs.Families.{Family, conflict_same, does_edits, does_homeless, does_liveless, family, gained_same, quiet_same}
 use Rattle.wm_model.proofs.MergedEdits.{all_refreshed, refresh_lockless}
-use Rattle.wm_model.proofs.RollingLine.{resolving_same}
+use Rattle.wm_model.proofs.Recorded.{resolving_same}
 use Rattle.wm_model.proofs.Unready.{gained_ready, keys_kept, unturned}
 
 -- ---- refusals by names
@@ -144,19 +142,19 @@ refresh_spent rs xs m session workspace a b es c r short one much =
     (λ s st. let f = family rs xs m workspace a b s r.family st in
     gains rs xs m session workspace a b es s r st f ∙ spent_at rs xs m s (a.log_length + length es) c (gained_in_state s f.q f.w es) st one short much)
 
-pub does_refresh : (rs : List Stored) (xs : List Session) (m : ℕ) (session : Session) (workspace : List ℕ) (a b : Space) (c : Counters) (entries : Vec NewEntry Global) → Refreshes rs m xs session workspace a b (map entry_of entries.items)
-    → CanDraft rs m (refresh_edits a.number entries) → nat_lt counter_limit (a.log_length + length entries.items) ≡ false → (parts_of rs).counters ≡ c ∷ [] → nat_lt counter_limit (c.work + line_work) ≡ false
+pub does_refresh : (rs : List Stored) (xs : List Session) (m : ℕ) (session : Session) (workspace : List ℕ) (a b : Space) (c : Counters) (entries : List NewEntry) → Refreshes rs m xs session workspace a b (map entry_of entries)
+    → CanDraft rs m (refresh_edits a.number entries) → nat_lt counter_limit (a.log_length + length entries) ≡ false → (parts_of rs).counters ≡ c ∷ [] → nat_lt counter_limit (c.work + line_work) ≡ false
     → Does rs xs m (refresh_edits a.number entries) Stay Fine (refresh_workspace session workspace)
 does_refresh rs xs m session workspace a b c entries r can short one spare =
     does_edits rs xs m (refresh_edits a.number entries) Stay Fine (refresh_workspace session workspace) tt can (λ none. absurd (cc)) (refresh_lockless a.number entries)
     (λ s st. let f = family rs xs m workspace a b s r.family st in
     gains rs xs m session workspace a b es s r st f
-    ∙ not_spent_at rs xs m s (a.log_length + length es) c (gained_in_state s f.q f.w es) st one (ap (λ n. nat_lt counter_limit (a.log_length + n)) (length-map entries.items entry_of) ∙ short) spare
+    ∙ not_spent_at rs xs m s (a.log_length + length es) c (gained_in_state s f.q f.w es) st one (ap (λ n. nat_lt counter_limit (a.log_length + n)) (length-map entries entry_of) ∙ short) spare
     ∙ ap (λ (d : Durable). (record s { durable = record d { last_moment = m; work = s.durable.work + line_work } }, Fine))
     (sym (ap (λ n. all_edited m (refresh_edits n entries) s.durable) (sym f.is.number) ∙ all_refreshed m f.w f.q entries s.durable (ap (workspace_of s.durable.spaces) f.is.number ∙ f.is.found) f.beside.above)))
   where
     es : List Entry
-    es = map entry_of entries.items
+    es = map entry_of entries
 
 -- in a lawful state all that is gained can be written, and all that is own copied
 pub refresh_unready : (rs : List Stored) (xs : List Session) (m : ℕ) (session : Session) (workspace : List ℕ) (a b : Space) (ks : List KeyPieces) (es : List Entry) (answer : Answer) → Refreshes rs m xs session workspace a b es → AreOwn (parts_of rs) a ks

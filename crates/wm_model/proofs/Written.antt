@@ -1,10 +1,8 @@
 -- What a line that changes rows does to each state that the records stand for.
-use Rattle.std.proofs.Common.{◌≡◌, ℕ, suc, ◌+◌, ◌&&◌, nat_lt, nat_le, cond, true, false, List, [], ◌∷◌, ◌++◌, append-nil, length, map, Option, Some, None, option_map, refl, sym, ap, ◌∙◌, arith}
+use Rattle.std.proofs.Common.{◌≡◌, ℕ, suc, ◌+◌, ◌&&◌, nat_lt, nat_le, cond, true, false, List, [], ◌∷◌, append-nil, length, map, Option, Some, None, option_map, refl, sym, ap, ◌∙◌, arith}
 use Rattle.std.proofs.lemmas.Bool.{and_from, and_parts, eq-eqb}
 use Rattle.std.specs.List.{list_all}
 use Rattle.std.specs.Option.{option_map_or}
-use Rattle.std.specs.declared.alloc.Global.{Global}
-use Rattle.std.specs.declared.vec.Vec.{Vec}
 use Rattle.wm_base.specs.declared.refusal.Refusal.{Refusal}
 use Rattle.wm_base.specs.declared.row.Row.{Row}
 use Rattle.wm_base.specs.declared.value.Value.{Value}
@@ -127,7 +125,7 @@ can_append rs n m locks user t a c changes may = record {
     many = length_entries c.next_stamp m user t changes
 
 -- and of one that locks cells behind it, whatever records that leaves
-pub can_lock_next : (rs : List Stored) (m work n : ℕ) (user : List ℕ) (ys : List NewLock) (entries : Vec NewEntry Global) (cs : List Change) → keep_rules (parts_of rs) ≡ true → CanLock (parts_of rs) n user ys
+pub can_lock_next : (rs : List Stored) (m work n : ℕ) (user : List ℕ) (ys : List NewLock) (entries : List NewEntry) (cs : List Change) → keep_rules (parts_of rs) ≡ true → CanLock (parts_of rs) n user ys
     → DraftsBy work rs m (edits.Append n entries ∷ []) cs → CanLock (parts_of (applied cs rs)) n user ys
 can_lock_next rs m work n user ys entries cs rules can drafts = by_state (fields_there (parts_of rs) rules)
   where
@@ -160,7 +158,7 @@ can_lock_next rs m work n user ys entries cs rules can drafts = by_state (fields
         }
           where
             es : List Entry
-            es = map entry_of entries.items
+            es = map entry_of entries
 
             v : RecordIs q (drafted_by work m (edits.Append n entries ∷ []) s) n (with_entries es h.workspace)
             v = record_there q (drafted_by work m (edits.Append n entries ∷ []) s) n (with_entries es h.workspace) after.spaces
@@ -171,7 +169,7 @@ can_lock_next rs m work n user ys entries cs rules can drafts = by_state (fields
 -- ---- the edits
 
 -- as many locks are made as there are parts, none where the session does not lock
-write_locks : (n : ℕ) (session : Session) (entries : Vec NewEntry Global) (parts : List NewLock) (o : Option LockMode) → (o ≡ None → parts ≡ [])
+write_locks : (n : ℕ) (session : Session) (entries : List NewEntry) (parts : List NewLock) (o : Option LockMode) → (o ≡ None → parts ≡ [])
     → locks_in (edits.Append n entries ∷ option_map_or (λ mode. lock_edits n mode session.user parts) o []) ≡ length parts
 write_locks n session entries parts None unlocked = ap length (sym (unlocked refl))
 write_locks n session entries [] (Some mode) unlocked = refl
@@ -181,11 +179,11 @@ write_locks n session entries (x ∷ xs) (Some mode) unlocked = same (length (x 
     same k = omega arith
 
 -- what they make of a state
-write_edited : (m n : ℕ) (session : Session) (entries : Vec NewEntry Global) (parts : List NewLock) (d : Durable) → all_edited m (write_edits n session entries parts) d ≡ locked_by session n parts (written_all n (map entry_of entries.items) d)
+write_edited : (m n : ℕ) (session : Session) (entries : List NewEntry) (parts : List NewLock) (d : Durable) → all_edited m (write_edits n session entries parts) d ≡ locked_by session n parts (written_all n (map entry_of entries) d)
 write_edited m n session entries parts d = by_locking session.locking parts
   where
     e : Durable
-    e = written_all n (map entry_of entries.items) d
+    e = written_all n (map entry_of entries) d
 
     by_locking : (o : Option LockMode) (xs : List NewLock) → all_edited m (edits.Append n entries ∷ option_map_or (λ mode. lock_edits n mode session.user xs) o []) d ≡ option_map_or (λ mode. locked_in n mode session.user xs e) o e
     by_locking None xs = refl
@@ -193,13 +191,13 @@ write_edited m n session entries parts d = by_locking session.locking parts
     by_locking (Some mode) (x ∷ xs) = refl
 
 -- a line may make them
-can_write : (rs : List Stored) (m n : ℕ) (session : Session) (t : Table) (a : Space) (c : Counters) (changes : List RowChange) (entries : Vec NewEntry Global) (parts : List NewLock) → keep_rules (parts_of rs) ≡ true
-    → MayWrite rs n m session.user t a c (length parts) changes → map entry_of entries.items ≡ entries_from c.next_stamp m session.user t changes
+can_write : (rs : List Stored) (m n : ℕ) (session : Session) (t : Table) (a : Space) (c : Counters) (changes : List RowChange) (entries : List NewEntry) (parts : List NewLock) → keep_rules (parts_of rs) ≡ true
+    → MayWrite rs n m session.user t a c (length parts) changes → map entry_of entries ≡ entries_from c.next_stamp m session.user t changes
     → list_all (λ (x : NewLock). are_cells (table_of (parts_of rs).tables) (cells_locked x)) parts ≡ true → list_all (λ (x : NewLock). list_all can_keep x.key) parts ≡ true
     → (session.locking ≡ None → parts ≡ []) → CanDraft rs m (write_edits n session entries parts)
 can_write rs m n session t a c changes entries parts rules may are fit kept unlocked = by_locking session.locking parts (write_locks n session entries parts session.locking unlocked) fit kept
   where
-    appends : CanAppend (parts_of rs) n (map entry_of entries.items)
+    appends : CanAppend (parts_of rs) n (map entry_of entries)
     appends = rw are (can_append rs n m (length parts) session.user t a c changes may)
 
     works : (work : ℕ) → work ≡ length parts → CanWork (parts_of rs) m (work + line_work)
@@ -284,8 +282,8 @@ parts_well tables o session n cells fit kept = by_locking session.locking
     by_locking None = (refl, refl)
     by_locking (Some mode) = let h : Holder = record { space = n; mode = mode; user = session.user } in (parts_fit tables o h cells fit, parts_kept o h cells kept)
 
-pub does_write : (rs : List Stored) (xs : List Session) (m n : ℕ) (session : Session) (t : Table) (count : ℕ) (changes : List RowChange) (a : Space) (c : Counters) (entries : Vec NewEntry Global) (parts : List NewLock) (act : State → State × Answer)
-    → keep_rules (parts_of rs) ≡ true → MayWrite rs n m session.user t a c (length parts) changes → map entry_of entries.items ≡ entries_from c.next_stamp m session.user t changes
+pub does_write : (rs : List Stored) (xs : List Session) (m n : ℕ) (session : Session) (t : Table) (count : ℕ) (changes : List RowChange) (a : Space) (c : Counters) (entries : List NewEntry) (parts : List NewLock) (act : State → State × Answer)
+    → keep_rules (parts_of rs) ≡ true → MayWrite rs n m session.user t a c (length parts) changes → map entry_of entries ≡ entries_from c.next_stamp m session.user t changes
     → parts ≡ parts_locked (outline_of (parts_of rs) xs m) session n (map cells_of (entries_from c.next_stamp m session.user t changes))
     → lock_fault (outline_of (parts_of rs) xs m) (claim_of session n) (map cells_of (entries_from c.next_stamp m session.user t changes)) ≡ None
     → ((s : State) → StandsAt rs xs m s → act s ≡ write_some session t count changes n a.log_length s) → Does rs xs m (write_edits n session entries parts) Stay (Done count) act

@@ -2,8 +2,6 @@
 use Rattle.std.specs.Prelude.{◌≡◌, ◌+◌, ℕ, true, false, nat_le, nat_lt, List, [], ◌∷◌, length, map, Some}
 use Rattle.std.specs.List.{list_all}
 use Rattle.std.specs.Option.{option_map_or}
-use Rattle.std.specs.declared.alloc.Global.{Global}
-use Rattle.std.specs.declared.vec.Vec.{Vec}
 use Rattle.wm_base.specs.declared.instant.TheConstants.{END}
 use Rattle.wm_dml.specs.Standing.{change_keys, change_lasts, is_change}
 use Rattle.wm_dml.specs.declared.change.RowChange.{RowChange}
@@ -45,7 +43,7 @@ pub record MayWrite (rs : List Stored) (n m : ℕ) (user : List ℕ) (t : Table)
   pub early : nat_lt m END ≡ true
 
 -- they are written, and what the session locks by them is locked
-abbrev pub write_edits : ℕ → Session → Vec NewEntry Global → List NewLock → List Edit
+abbrev pub write_edits : ℕ → Session → List NewEntry → List NewLock → List Edit
 write_edits n session entries parts = edits.Append n entries ∷ option_map_or (λ mode. lock_edits n mode session.user parts) session.locking []
 
 -- ---- in a state

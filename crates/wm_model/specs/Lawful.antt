@@ -35,12 +35,13 @@ pub record LawfulMark (w : Workspace) (k : Savepoint) : Type 0 where
 abbrev pub Rises : Savepoint → Savepoint → Type 0
 Rises a b = a.place ≤ b.place → a.log_length ≤ b.log_length
 
--- a workspace holds what it was born with and its log do; P, Q: by name, by making, or however a savepoint is looked for. Its first turn
--- took what it was born with, and its last one its base. LIVE was born with nothing
+-- a workspace holds what it was born with and its log do; P, Q: by name, by making, or however a savepoint is looked for, and what is found
+-- is found by its making. Its first turn took what it was born with, and its last one its base. LIVE was born with nothing
 pub record LawfulSpace (w : Workspace) : Type 0 where
   pub latest : Alike (content w) (whole w)
   pub marks : (P : Savepoint → Bool) (k : Savepoint) → find P w.savepoints ≡ Some k → LawfulMark w k
   pub rises : (P Q : Savepoint → Bool) (a b : Savepoint) → find P w.savepoints ≡ Some a → find Q w.savepoints ≡ Some b → Rises a b
+  pub made : (P : Savepoint → Bool) (k : Savepoint) → find P w.savepoints ≡ Some k → savepoint_made k.making w.savepoints ≡ Some k
   pub first : (t : Turn) → turn_of w 0 ≡ Some t → t.content ≡ w.lists.at_birth
   pub last : (t : Turn) → turn_of w w.rebases ≡ Some t → (t.content ≡ w.lists.base) × (t.log_length ≡ w.from)
   pub live : w.number ≡ 0 → w.lists.at_birth ≡ []

@@ -2,7 +2,6 @@ pub mod Lines
 pub mod Seating
 pub mod Step
 pub mod Planning
-pub mod Saving
 pub mod Undone
 pub mod Merged
 pub mod Running

@@ -2,8 +2,6 @@
 use Rattle.std.specs.Prelude.{ℕ, ◌≡◌, ◌+◌, ◌<◌, Bool, true, false, not, ◌&&◌, ◌||◌, ◌==◌, nat_le, nat_lt, if◌then◌else◌, List, [], ◌∷◌, ◌++◌, length, map, max, Option, Some, None, is_some, codes}
 use Rattle.std.specs.List.{count_by, find, list_all}
 use Rattle.std.specs.Str.{bytes_eq}
-use Rattle.std.specs.declared.alloc.Global.{Global}
-use Rattle.std.specs.declared.vec.Vec.{Vec}
 use Rattle.wm_base.specs.Period.{Span}
 use Rattle.wm_base.specs.declared.refusal.Refusal.{Refusal}
 use Rattle.wm_base.specs.declared.value.Value.{Value}
@@ -91,10 +89,10 @@ pub record Refreshes (rs : List Stored) (m : ℕ) (xs : List Session) (session :
   pub listed : IsHeldListing (parts_of rs) m session.user (gained_held (parts_of rs) a b) es
 
 -- entries that a log gains, where there are some
-abbrev pub gain_edits : ℕ → Vec NewEntry Global → List Edit
-gain_edits n entries = if length entries.items == 0 then [] else edits.Gain n entries ∷ []
+abbrev pub gain_edits : ℕ → List NewEntry → List Edit
+gain_edits n entries = if length entries == 0 then [] else edits.Gain n entries ∷ []
 
-abbrev pub refresh_edits : ℕ → Vec NewEntry Global → List Edit
+abbrev pub refresh_edits : ℕ → List NewEntry → List Edit
 refresh_edits n entries = edits.Rebase n false ∷ gain_edits n entries
 
 -- ---- a merge
@@ -154,11 +152,11 @@ longer_log_at a b own es = max (b.log_length + length own) (a.log_length + lengt
 abbrev pub keep_edits : Bool → ℕ → List Edit
 keep_edits keeps n = if keeps then edits.Keep n ∷ [] else []
 
-abbrev pub replay_edits : ℕ → Vec NewEntry Global → List Edit
-replay_edits n entries = if length entries.items == 0 then [] else edits.Replay n entries ∷ []
+abbrev pub replay_edits : ℕ → List NewEntry → List Edit
+replay_edits n entries = if length entries == 0 then [] else edits.Replay n entries ∷ []
 
 -- the workspace stands on its parent, unless nothing was merged or pending
-abbrev pub rebase_edits : Bool → ℕ → Vec NewEntry Global → List Edit
+abbrev pub rebase_edits : Bool → ℕ → List NewEntry → List Edit
 rebase_edits even n entries = if even then [] else edits.Rebase n true ∷ gain_edits n entries
 
 -- there is nothing to do: nothing is to be merged or pending, the workspace has no locks, and nothing is asked for besides
@@ -166,10 +164,10 @@ abbrev pub is_idle_at : Asked → Bool → List ℕ → Bool
 is_idle_at asked even makings = even && ((length makings == 0) && not (asked.keeps || asked.removes))
 
 -- how the workspace stands behind it: it goes, or it stands on its parent and its locks go
-abbrev pub after_edits : Bool → Bool → ℕ → Vec NewEntry Global → List ℕ → List Edit
+abbrev pub after_edits : Bool → Bool → ℕ → List NewEntry → List ℕ → List Edit
 after_edits removes even n entries makings = if removes then edits.Remove n ∷ [] else rebase_edits even n entries ++ unlock_edits makings
 
-abbrev pub merge_edits : Asked → Bool → ℕ → ℕ → Vec NewEntry Global → Vec NewEntry Global → List ℕ → List Edit
+abbrev pub merge_edits : Asked → Bool → ℕ → ℕ → List NewEntry → List NewEntry → List ℕ → List Edit
 merge_edits asked even n parent own entries makings = keep_edits asked.keeps parent ++ (replay_edits parent own ++ after_edits asked.removes even n entries makings)
 
 -- and of the sessions: where the workspace goes, none holds it any more

@@ -1,10 +1,10 @@
 -- What a plan over the records of a store says that a line does and answers.
-use Rattle.std.specs.Prelude.{◌≡◌, ℕ, List, Option, None, Some}
+use Rattle.std.specs.Prelude.{◌≡◌, ◌==◌, ℕ, Bool, true, false, List, Option, None, Some}
 use Rattle.std.specs.Option.{option_map_or}
 use Rattle.std.specs.List.{All}
 use Rattle.wm_decided.specs.Staged.{AreStaged, IsStaged, IsStagedResolve}
 use Rattle.wm_graph.specs.Parts.{Parts, parts_of}
-use Rattle.wm_print.specs.Texts.{Answer}
+use Rattle.wm_print.specs.Texts.{Answer, Nothing, Fine, Done, Listing, Refused}
 use Rattle.wm_spec.specs.declared.record.stored.Stored.{Stored}
 use Rattle.wm_state.specs.Drafts.{CanDraft}
 use Rattle.wm_state.specs.State.{State, Session, table_named}
@@ -51,6 +51,14 @@ pub record DoesAt (records : List Stored) (sessions : List Session) (moment : �
 -- so, and the moment stays
 abbrev pub Does : List Stored → List Session → ℕ → List Edit → Seating → Answer → (State → State × Answer) → Type 0
 Does records sessions moment edits seating answer act = DoesAt records sessions moment edits seating moment answer act
+
+-- the answer of a line that is refused, that reads, that changes no row, or that says nothing
+abbrev pub is_idle : Answer → Bool
+is_idle Nothing = true
+is_idle Fine = false
+is_idle (Done count) = count == 0
+is_idle (Listing rows) = true
+is_idle (Refused refusal) = true
 
 -- ---- what plans are told by
 

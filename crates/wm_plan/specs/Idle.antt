@@ -1,18 +1,10 @@
 -- Lines that are refused, that read, that change no row, or that say nothing change no record and no session, and leave the moment.
-use Rattle.std.specs.Prelude.{◌≡◌, ◌==◌, ℕ, Bool, true, false, []}
-use Rattle.wm_print.specs.Texts.{Answer, Nothing, Fine, Done, Listing, Refused}
+use Rattle.std.specs.Prelude.{◌≡◌, ℕ, true, []}
+pub use Rattle.wm_model.specs.Planning.{is_idle}
 use Rattle.wm_plan.specs.Views.{answer_view}
 use Rattle.wm_plan.specs.declared.planned.Planned.{Planned}
 use Rattle.wm_plan.specs.declared.planned.Timed.{Timed}
 use Rattle.wm_plan.specs.declared.seating.Seating.TheVariants.{Stay}
-
--- the answer of such a line
-abbrev pub is_idle : Answer → Bool
-is_idle Nothing = true
-is_idle Fine = false
-is_idle (Done count) = count == 0
-is_idle (Listing rows) = true
-is_idle (Refused refusal) = true
 
 -- a plan with such an answer changes nothing
 abbrev pub Idles : Planned → Type 0

@@ -1,4 +1,4 @@
--- What the four calls do, by what is given and what is wrong with it.
+-- What ResolveConflicts and CommitResolve do, by what is given and what is wrong with it.
 use Rattle.std.proofs.Common.{◌≡◌, ℕ, Bool, true, false, not, if◌then◌else◌, List, [], Option, None, Some, unwrap_or, option_map, refl, sym, ap, ◌∙◌}
 use Rattle.std.proofs.lemmas.Slice.Eq.{bytes_eq-Decides}
 use Rattle.std.specs.Option.{option_or}
@@ -16,7 +16,7 @@ use Rattle.wm_grammar.specs.declared.procedure.Procedure.{Procedure}
 use Rattle.wm_grammar.specs.declared.procedure.Procedure.TheVariants as procedures
 use Rattle.wm_graph.specs.Parts.{parts_of}
 use Rattle.wm_model.specs.Planning.{Does, StandsAt, Stay, named}
-use Rattle.wm_model.specs.Step.{begin_resolve, call, call_with, commit_resolve, fault_around, given, keep_given, mistyped, no_table, resolve_conflicts, rollback_resolve, unkeyed_fault, unless, unless_mistyped, versioning}
+use Rattle.wm_model.specs.Step.{call, call_with, commit_resolve, fault_around, given, keep_given, mistyped, no_table, resolve_conflicts, unkeyed_fault, unless, unless_mistyped, versioning}
 use Rattle.wm_model.proofs.Doing.{does_nothing}
 use Rattle.wm_model.proofs.Homes.{with_none, with_some}
 use Rattle.wm_print.specs.Texts.{Answer, Refused}
@@ -35,24 +35,6 @@ unless_some fault parameter s done some = ap (λ f. unless_mistyped f s done) so
 
 unless_none : (fault : Option (List ℕ)) (s : State) (done : State × Answer) → fault ≡ None → unless_mistyped fault s done ≡ done
 unless_none fault s done none = ap (λ f. unless_mistyped f s done) none
-
--- ---- BeginResolve
-
-pub begin_mistyped : (session : Session) (args : List Arg) (s : State) (parameter : List ℕ) → argument_fault procedures.BeginResolve args ≡ Some parameter → call session (Some procedures.BeginResolve) args s ≡ (s, mistyped parameter)
-begin_mistyped session args s parameter wrong = unless_some (argument_fault procedures.BeginResolve args) parameter s _ wrong
-
-pub begin_done : (session : Session) (args : List Arg) (s : State) (workspace : List ℕ) → argument_fault procedures.BeginResolve args ≡ None → workspace ≡ unwrap_or (text_given procedures.BeginResolve args parameters.Workspace) []
-    → call session (Some procedures.BeginResolve) args s ≡ begin_resolve session workspace s
-begin_done session args s workspace right is = unless_none (argument_fault procedures.BeginResolve args) s _ right ∙ ap (λ w. begin_resolve session w s) (sym is)
-
--- ---- RollbackResolve
-
-pub rollback_mistyped : (session : Session) (args : List Arg) (s : State) (parameter : List ℕ) → argument_fault procedures.RollbackResolve args ≡ Some parameter → call session (Some procedures.RollbackResolve) args s ≡ (s, mistyped parameter)
-rollback_mistyped session args s parameter wrong = unless_some (argument_fault procedures.RollbackResolve args) parameter s _ wrong
-
-pub rollback_done : (session : Session) (args : List Arg) (s : State) (workspace : List ℕ) → argument_fault procedures.RollbackResolve args ≡ None → workspace ≡ unwrap_or (text_given procedures.RollbackResolve args parameters.Workspace) []
-    → call session (Some procedures.RollbackResolve) args s ≡ rollback_resolve session workspace s
-rollback_done session args s workspace right is = unless_none (argument_fault procedures.RollbackResolve args) s _ right ∙ ap (λ w. rollback_resolve session w s) (sym is)
 
 -- ---- CommitResolve
 

@@ -5,8 +5,6 @@ use Rattle.std.proofs.lemmas.Option.{same_Some}
 use Rattle.std.specs.List.{All, find}
 use Rattle.std.specs.Str.{bytes_eq}
 use Rattle.std.specs.Option.{option_map_or}
-use Rattle.std.specs.declared.alloc.Global.{Global}
-use Rattle.std.specs.declared.vec.Vec.{Vec}
 use Rattle.wm_base.specs.declared.refusal.Refusal.{Refusal}
 use Rattle.wm_decided.specs.Netted.{entries_decided, marks_of}
 use Rattle.wm_decided.specs.Staged.{AreStaged, IsStaged, IsStagedResolve}
@@ -35,7 +33,7 @@ use Rattle.wm_state.proofs.EditedLater.{all_edited_append}
 use Rattle.wm_model.specs.Merged.{replay_edits}
 use Rattle.wm_model.proofs.MergedEdits.{all_replayed, with_space-again}
 use Rattle.wm_model.proofs.Doing.{does_nothing, does_seat, not_spent_at, spent_at, spent_log}
-use Rattle.wm_model.proofs.RollingLine.{home}
+use Rattle.wm_model.proofs.Recorded.{home}
 use Rattle.wm_resolve.proofs.OpeningLine.{resolving}
 use Rattle.wm_resolve.specs.Committed.{commit_edits}
 
@@ -53,7 +51,7 @@ with_space-here n act other w (v ∷ vs) found same = by_test (v.number == n) fo
     by_test false is rest = ap (λ (xs : List Workspace). v ∷ xs) (rest is)
 
 -- edits that are some are counted
-some_edits : (m n : ℕ) (none : Bool) (entries : Vec NewEntry Global) (marks : Vec NewMark Global) (d : Durable)
+some_edits : (m n : ℕ) (none : Bool) (entries : List NewEntry) (marks : List NewMark) (d : Durable)
     → let es : List Edit = (if none then [] else edits.Replay n entries ∷ []) ++ edits.Settle n marks ∷ [] in drafted m es d ≡ record (all_edited m es d) { last_moment = m; work = d.work + line_work }
 some_edits m n true entries marks d = refl
 some_edits m n false entries marks d = refl
@@ -152,19 +150,19 @@ module _ (rs : List Stored) (xs : List Session) (m : ℕ) (session : Session) (w
 
   -- ---- the plan
 
-  made : (w : Workspace) (entries : Vec NewEntry Global) (marks : Vec NewMark Global) (d : Durable) → w.number ≡ a.number → workspace_of d.spaces a.number ≡ Some w → es ≡ map entry_of entries.items
-      → map (settled_by (w.next_place - 1)) marks.items ≡ marks_of (w.next_place - 1) ds
+  made : (w : Workspace) (entries : List NewEntry) (marks : List NewMark) (d : Durable) → w.number ≡ a.number → workspace_of d.spaces a.number ≡ Some w → es ≡ map entry_of entries
+      → map (settled_by (w.next_place - 1)) marks ≡ marks_of (w.next_place - 1) ds
       → all_edited m (commit_edits a.number entries marks) d ≡ record d { spaces = with_space w.number (resolved es (marks_of (w.next_place - 1) ds)) d.spaces }
   made w entries marks d number found is marked =
       all_edited_append m (replay_edits a.number entries) (edits.Settle a.number marks ∷ []) d
-      ∙ ap (settled_in a.number marks.items) (all_replayed m a.number entries d)
+      ∙ ap (settled_in a.number marks) (all_replayed m a.number entries d)
       ∙ ap (λ (ws : List Workspace). record d { spaces = ws })
-      (with_space-again a.number (with_entries (map entry_of entries.items)) (with_marks marks.items) (λ v. refl) d.spaces
-      ∙ with_space-here a.number (λ v. with_marks marks.items (with_entries (map entry_of entries.items) v)) (resolved es (marks_of (w.next_place - 1) ds)) w d.spaces found
+      (with_space-again a.number (with_entries (map entry_of entries)) (with_marks marks) (λ v. refl) d.spaces
+      ∙ with_space-here a.number (λ v. with_marks marks (with_entries (map entry_of entries) v)) (resolved es (marks_of (w.next_place - 1) ds)) w d.spaces found
       (λ i. resolved (sym is i) (marked i) w)
       ∙ ap (λ n. with_space n (resolved es (marks_of (w.next_place - 1) ds)) d.spaces) (sym number))
 
-  pub does_commit : (k : Counters) (entries : Vec NewEntry Global) (marks : Vec NewMark Global) → barred_by ≡ None → es ≡ map entry_of entries.items → ((place : ℕ) → map (settled_by place) marks.items ≡ marks_of place ds)
+  pub does_commit : (k : Counters) (entries : List NewEntry) (marks : List NewMark) → barred_by ≡ None → es ≡ map entry_of entries → ((place : ℕ) → map (settled_by place) marks ≡ marks_of place ds)
       → CanDraft rs m (commit_edits a.number entries marks) → nat_lt counter_limit (a.log_length + length es) ≡ false → (parts_of rs).counters ≡ k ∷ [] → nat_lt counter_limit (k.work + line_work) ≡ false
       → Does rs xs m (commit_edits a.number entries marks) (Set session.name settings.End) Fine (commit_resolve session workspace)
   does_commit k entries marks none is marked can short one spare = record {
@@ -175,6 +173,6 @@ module _ (rs : List Stored) (xs : List Session) (m : ℕ) (session : Session) (w
         clears s st none
         ∙ not_spent_at rs xs m s (a.log_length + length es) k (committed session s w.number es (marks_of (w.next_place - 1) ds)) st one short spare
         ∙ ap (λ (d : Durable). (record (set_of session settings.End s) { durable = record d { last_moment = m; work = s.durable.work + line_work } }, Fine)) (sym (made w entries marks s.durable h.is.number h.is.found is (marked (w.next_place - 1))))
-        ∙ ap (λ (d : Durable). (record (set_of session settings.End s) { durable = d }, Fine)) (sym (some_edits m a.number (length entries.items == 0) entries marks s.durable))
+        ∙ ap (λ (d : Durable). (record (set_of session settings.End s) { durable = d }, Fine)) (sym (some_edits m a.number (length entries == 0) entries marks s.durable))
         ∙ ap (λ n. (record (set_of session settings.End s) { durable = drafted m (commit_edits a.number entries marks) s.durable; moment = n }, Fine)) (sym st.moment_is);
   }

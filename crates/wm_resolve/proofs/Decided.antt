@@ -15,7 +15,7 @@ use Rattle.wm_state.specs.State.{Session}
 use Rattle.wm_model.specs.Merged.{NamesFamily}
 use Rattle.wm_model.specs.Step.{has_open}
 use Rattle.wm_model.specs.Undone.{NamesSpace}
-use Rattle.wm_model.proofs.RollingLine.{named_numbered}
+use Rattle.wm_model.proofs.Recorded.{named_numbered}
 
 -- ---- all of them
 

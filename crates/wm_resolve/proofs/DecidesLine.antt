@@ -41,7 +41,7 @@ use Rattle.wm_model.specs.Planning.{StandsAt}
 use Rattle.wm_model.specs.Step.{decide, has_open}
 use Rattle.wm_model.proofs.Families.{Related, related}
 use Rattle.wm_model.proofs.Lawful.Nets.{told_tells}
-use Rattle.wm_model.proofs.RollingLine.{home}
+use Rattle.wm_model.proofs.Recorded.{home}
 use Rattle.wm_model.proofs.Unready.{filled_kept}
 use Rattle.wm_resolve.proofs.DecidingLine.{base_sound, decide_to, found_same, parent_sound, tell_sides}
 use Rattle.wm_resolve.proofs.Keyed.{IsLaid, laid_keyed, own_laid}

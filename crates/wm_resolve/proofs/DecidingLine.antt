@@ -32,7 +32,7 @@ use Rattle.wm_model.proofs.Doing.{does_nothing, does_seat}
 use Rattle.wm_model.proofs.Families.{Related}
 use Rattle.wm_model.proofs.Lawful.Entries.{each_append}
 use Rattle.wm_model.proofs.Lawful.Nets.{sound_stamped}
-use Rattle.wm_model.proofs.RollingLine.{home}
+use Rattle.wm_model.proofs.Recorded.{home}
 use Rattle.wm_resolve.proofs.OpeningLine.{nameless, resolve_closed}
 use Rattle.wm_resolve.specs.Deciding.{Decides, resolve_to}
 use Rattle.wm_resolve.specs.Telling.{TellSides}

@@ -8,8 +8,6 @@ use Rattle.std.proofs.lemmas.Bool.{and_from, and_parts}
 use Rattle.std.specs.Bool.{then_some}
 use Rattle.std.specs.List.{All, list_all}
 use Rattle.std.specs.Option.{option_map_or, option_or}
-use Rattle.std.specs.declared.alloc.Global.{Global}
-use Rattle.std.specs.declared.vec.Vec.{Vec}
 use Rattle.wm_base.specs.declared.instant.TheConstants.{END}
 use Rattle.wm_base.specs.declared.value.Value.{Value}
 use Rattle.wm_decided.specs.Counted.{decision_in, place_at}
@@ -182,27 +180,27 @@ module _ (p : Parts) (ds : List Decision) (staged : All (IsStaged p) ds) where
 
 -- ---- the edits
 
-pub drafts_commit : (rs : List Stored) (m : ℕ) (user : List ℕ) (n : ℕ) (a : Space) (c : Counters) (ds : List Decision) (entries : Vec NewEntry Global) (marks : Vec NewMark Global) → Ascend rs → keep_rules (parts_of rs) ≡ true
-    → All (IsStaged (parts_of rs)) ds → ((ds ≡ []) → ⊥) → map entry_of entries.items ≡ entries_decided m user ds → ((place : ℕ) → map (settled_by place) marks.items ≡ marks_of place ds) → is_short user ≡ true
-    → space_of (parts_of rs).spaces n ≡ Some a → nat_lt counter_limit (a.log_length + length (map entry_of entries.items)) ≡ false → (parts_of rs).counters ≡ c ∷ [] → nat_lt counter_limit (c.work + line_work) ≡ false → nat_lt m END ≡ true
+pub drafts_commit : (rs : List Stored) (m : ℕ) (user : List ℕ) (n : ℕ) (a : Space) (c : Counters) (ds : List Decision) (entries : List NewEntry) (marks : List NewMark) → Ascend rs → keep_rules (parts_of rs) ≡ true
+    → All (IsStaged (parts_of rs)) ds → ((ds ≡ []) → ⊥) → map entry_of entries ≡ entries_decided m user ds → ((place : ℕ) → map (settled_by place) marks ≡ marks_of place ds) → is_short user ≡ true
+    → space_of (parts_of rs).spaces n ≡ Some a → nat_lt counter_limit (a.log_length + length (map entry_of entries)) ≡ false → (parts_of rs).counters ≡ c ∷ [] → nat_lt counter_limit (c.work + line_work) ≡ false → nat_lt m END ≡ true
     → CanDraft rs m (commit_edits n entries marks)
-drafts_commit rs m user n a c ds entries marks sorted rules staged some is marked short there room one spare early = by_none (length entries.items == 0) refl
+drafts_commit rs m user n a c ds entries marks sorted rules staged some is marked short there room one spare early = by_none (length entries == 0) refl
   where
     work : CanWork (parts_of rs) m line_work
     work = record { counters = c; one = one; some = refl; room = spare; early = early }
 
-    settle : CanSettle (parts_of rs) n marks.items
-    settle = can_settle (parts_of rs) ds staged marks.items (marked 0) n a there some
+    settle : CanSettle (parts_of rs) n marks
+    settle = can_settle (parts_of rs) ds staged marks (marked 0) n a there some
 
     some_entries : (es : List NewEntry) → (length es == 0) ≡ false → nat_lt 0 (length (map entry_of es)) ≡ true
     some_entries es more = grind (arith, nat_tests, length-map es entry_of, more)
 
-    replay : (length entries.items == 0) ≡ false → CanReplay (parts_of rs) n (map entry_of entries.items)
+    replay : (length entries == 0) ≡ false → CanReplay (parts_of rs) n (map entry_of entries)
     replay more =
         subst (CanReplay (parts_of rs) n) (sym is)
-        (can_replay (parts_of rs) ds staged m user c n a one short there (ap (λ (es : List Entry). nat_lt 0 (length es)) (sym is) ∙ some_entries entries.items more)
+        (can_replay (parts_of rs) ds staged m user c n a one short there (ap (λ (es : List Entry). nat_lt 0 (length es)) (sym is) ∙ some_entries entries more)
         (ap (λ (es : List Entry). nat_lt counter_limit (a.log_length + length es)) (sym is) ∙ room))
 
-    by_none : (none : Bool) → (length entries.items == 0) ≡ none → CanDraft rs m ((if none then [] else edits.Replay n entries ∷ []) ++ edits.Settle n marks ∷ [])
+    by_none : (none : Bool) → (length entries == 0) ≡ none → CanDraft rs m ((if none then [] else edits.Replay n entries ∷ []) ++ edits.Settle n marks ∷ [])
     by_none true e = (work, omega arith, (settle, λ given changes drafts. tt))
     by_none false e = (work, omega arith, settles_behind rs m n entries marks sorted rules (replay e) settle)

@@ -1,4 +1,4 @@
-//! What the four calls are given.
+//! What ResolveConflicts and CommitResolve are given.
 
 ghost use Rattle.std.specs.Prelude.{◌≡◌, ◌<◌, ℕ, List, [], Some, true, unwrap_or, IfOk};
 ghost use Rattle.wm_syntax.specs.Views.{filter_view};
@@ -16,7 +16,6 @@ ghost use Rattle.wm_state.specs.State.{Session as SessionState};
 
 use crate::committing::commit_resolve;
 use crate::deciding::{Asked, resolve_in};
-use crate::opening::{begin_resolve, rollback_resolve};
 use std::alloc::Global;
 use wm_base::{FormRefusal, Memory, Refusal};
 use wm_calls::text_given;
@@ -32,43 +31,6 @@ use wm_plan::session::Session;
 use wm_reader::capitals_of;
 use wm_spec::record::Table;
 use wm_syntax::statement::Arg;
-
-/// BeginResolve.
-pub fn begin_call(
-    alloc: Global,
-    image: &Image,
-    sessions: &[Session],
-    session: &Session,
-    args: &[Arg],
-) -> Result<Planned, Memory>
-    requires rules { keep_rules (parts_of image.now) ≡ true }
-    ensures does { IfOk result (λ p. (m : ℕ) → DoesIt image.now sessions.now m p (call session.now (Some procedures.BeginResolve) args.now)) }
-    ensures idle { IfOk result Idles }
-{
-    if let Some(parameter) = fault_of(alloc, Procedure::BeginResolve, args)? {
-        return Ok(Planned::answered(alloc, mistyped(parameter)));
-    }
-    let workspace = bytes_given(Procedure::BeginResolve, args, Parameter::Workspace, b"");
-    begin_resolve(alloc, image, sessions, session, workspace)
-}
-
-/// RollbackResolve.
-pub fn rollback_resolve_call(
-    alloc: Global,
-    image: &Image,
-    session: &Session,
-    args: &[Arg],
-) -> Result<Planned, Memory>
-    requires rules { keep_rules (parts_of image.now) ≡ true }
-    ensures does { IfOk result (λ p. (xs : List SessionState) (m : ℕ) → DoesIt image.now xs m p (call session.now (Some procedures.RollbackResolve) args.now)) }
-    ensures idle { IfOk result Idles }
-{
-    if let Some(parameter) = fault_of(alloc, Procedure::RollbackResolve, args)? {
-        return Ok(Planned::answered(alloc, mistyped(parameter)));
-    }
-    let workspace = bytes_given(Procedure::RollbackResolve, args, Parameter::Workspace, b"");
-    rollback_resolve(alloc, image, session, workspace)
-}
 
 /// CommitResolve.
 pub fn commit_call(

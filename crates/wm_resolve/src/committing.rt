@@ -12,13 +12,14 @@ ghost use Rattle.wm_plan.specs.Planning.{DoesIt};
 ghost use Rattle.wm_resolve.specs.Committed.{commit_edits};
 ghost use Rattle.wm_state.specs.State.{Session as SessionState};
 
-use crate::opening::{has_open, setting};
+use crate::opening::has_open;
 use crate::restorable::are_staged;
 use std::alloc::Global;
 use wm_barred::barring::{Claim, entries_fault};
 use wm_base::{Memory, Name};
 use wm_decided::decision::Decision;
 use wm_decided::netted::{Netted, net_decisions};
+use wm_ground::outcome::setting;
 use wm_image::Image;
 use wm_plan::answer::Answer;
 use wm_plan::planned::Planned;
@@ -27,17 +28,19 @@ use wm_plan::seating::Seating;
 use wm_plan::session::{Session, Setting};
 use wm_plan::work::{is_long, is_spent};
 use wm_spec::record::Space;
-use wm_state::edit::Edit;
+use wm_state::edit::{Edit, Entries, Marks};
 
 /// The edits by which entries come into a workspace, if there are any, and its cells are settled.
 fn commit_edits(alloc: Global, space: u32, netted: Netted) -> Result<Vec<Edit>, Memory>
-    ensures { IfOk result (λ edits. edits.items ≡ commit_edits space netted.entries netted.marks) }
+    ensures { IfOk result (λ edits. edits.items ≡ commit_edits space netted.entries.items netted.marks.items) }
 {
     let Netted { marks, entries } = netted;
     let mut edits = Vec::new(alloc);
     if !entries.is_empty() {
+        let entries = Entries::from_vec(entries);
         edits.push(Edit::Replay { space, entries })?;
     }
+    let marks = Marks::from_vec(marks);
     edits.push(Edit::Settle { space, marks })?;
     Ok(edits)
 }

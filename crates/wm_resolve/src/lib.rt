@@ -7,5 +7,5 @@ mod committing;
 mod copying;
 mod deciding;
 mod meaning;
-mod opening;
+pub mod opening;
 mod restorable;

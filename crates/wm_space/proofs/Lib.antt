@@ -1,11 +1,8 @@
-pub mod BirthPlans
-pub mod Calling
-pub mod TwoPoints
-pub mod Creating
 pub mod Dating
+pub mod Depending
 pub mod Ended
-pub mod Lengths
 pub mod LocksHeld
 pub mod Marks
-pub mod SavepointPlans
-pub mod UndoingPlans
+pub mod Rolled
+pub mod Staying
+pub mod TwoPoints

@@ -2,6 +2,7 @@
 use Rattle.std.proofs.Common.{◌≡◌, ℕ, ◌==◌, ◌&&◌, ◌||◌, not, nat_lt, Bool, true, false, cond, List, [], ◌∷◌, Option, Some, None, refl, sym, ap, ◌∙◌}
 use Rattle.std.specs.List.{filter, filter_map, list_all}
 use Rattle.std.specs.Option.{option_and_then, option_map_or}
+use Rattle.wm_base.proofs.Plain.{and_swap}
 use Rattle.wm_graph.specs.Parts.{as_lock, parts_of}
 use Rattle.wm_image.proofs.Lists.{taken-with}
 use Rattle.wm_index.proofs.Finding.{Tests, all_of, filter-kind}
@@ -14,6 +15,7 @@ use Rattle.wm_spec.specs.declared.record.lock.Lock.{Lock}
 use Rattle.wm_spec.specs.declared.record.stored.Stored.{Stored}
 use Rattle.wm_state.specs.ById.{Ascend}
 use Rattle.wm_state.specs.Editing.{stays_held}
+use Rattle.wm_state.specs.Standing.{locks_by_making, place_lock}
 
 -- a lock was made before a place
 abbrev pub is_before : ℕ → Lock → Bool
@@ -44,13 +46,27 @@ locks-first p ss id ids b test = by_record (record_at ss id) refl test
         by_kind None kind test = rw kind (ap (λ t. t && list_all p (kind_at as_lock ss ids)) test)
         by_kind (Some x) kind test = rw kind (ap (λ t. t && list_all p (kind_at as_lock ss ids)) test)
 
+-- a test holds of all locks by making where it holds of all locks
+all_placed : (P : Lock → Bool) (x : Lock) (ys : List Lock) → list_all P (place_lock x ys) ≡ (P x && list_all P ys)
+all_placed P x [] = refl
+all_placed P x (y ∷ ys) = by_test (nat_lt y.making x.making) (all_placed P x ys)
+  where
+    by_test : (b : Bool) → list_all P (place_lock x ys) ≡ (P x && list_all P ys) → list_all P (cond b (y ∷ place_lock x ys) (x ∷ y ∷ ys)) ≡ (P x && (P y && list_all P ys))
+    by_test true rest = ap (λ c. P y && c) rest ∙ and_swap (P y) (P x) (list_all P ys)
+    by_test false rest = refl
+
+all_by_making : (P : Lock → Bool) (xs : List Lock) → list_all P (locks_by_making xs) ≡ list_all P xs
+all_by_making P [] = refl
+all_by_making P (x ∷ xs) = all_placed P x (locks_by_making xs) ∙ ap (λ c. P x && c) (all_by_making P xs)
+
 -- all locks stay that are of another workspace or were made before a place
-pub all_held : (n place : ℕ) (ss : List Stored) → Ascend ss → list_all (is_before place) (kind_at as_lock ss (ids_with (is_sought (LocksOf n)) ss)) ≡ list_all (stays_held n place) (parts_of ss).locks
+pub all_held : (n place : ℕ) (ss : List Stored) → Ascend ss → list_all (is_before place) (kind_at as_lock ss (ids_with (is_sought (LocksOf n)) ss)) ≡ list_all (stays_held n place) (locks_by_making (parts_of ss).locks)
 unfolding parts_of
 all_held n place ss sorted =
     ap (λ rs. list_all (is_before place) (filter_map as_lock rs)) (taken-with (is_sought (LocksOf n)) ss sorted)
     ∙ ap (list_all (is_before place)) (filter-kind as_lock (λ (x : Lock). x.space == n) (is_sought (LocksOf n)) (lock_test n) (all_of ss))
     ∙ all-filter (is_before place) (λ (x : Lock). x.space == n) (filter_map as_lock (all_of ss))
+    ∙ sym (all_by_making (stays_held n place) (filter_map as_lock (all_of ss)))
 
 -- ---- the steps of a walk over the ids
 

@@ -1,13 +1,15 @@
 -- Marks of a workspace, found by its ids.
-use Rattle.std.proofs.Common.{◌≡◌, ℕ, ◌+◌, ◌<◌, ◌==◌, ◌&&◌, ◌||◌, Bool, true, false, cond, List, [], ◌∷◌, length, drop, get_or, Option, Some, None, refl, sym, ap, ◌∙◌}
+use Rattle.std.proofs.Common.{◌≡◌, ℕ, ◌+◌, ◌<◌, ◌==◌, ◌||◌, nat_le, nat_lt, Bool, false, List, ◌∷◌, length, drop, get_or, Option, Some, None, refl, sym, ap, ◌∙◌}
 use Rattle.std.proofs.lemmas.List.{drop_more}
-use Rattle.std.specs.List.{filter, filter_map, list_any}
+use Rattle.std.specs.List.{filter_map, list_any}
 use Rattle.std.specs.Option.{option_and_then, option_map_or}
 use Rattle.wm_graph.specs.Parts.{as_mark, parts_of}
 use Rattle.wm_image.proofs.Lists.{taken-with}
 use Rattle.wm_index.proofs.Finding.{Tests, all_of, filter-kind}
 use Rattle.wm_index.specs.Kinds.{kind_at}
 use Rattle.wm_index.specs.Sought.{MarksIn, ids_with, is_sought}
+use Rattle.wm_outline.proofs.Tops.{beyond_top, reached_top}
+use Rattle.wm_outline.specs.Outline.{marks_in, top}
 use Rattle.wm_spec.specs.Records.{record_at}
 use Rattle.wm_spec.specs.declared.record.Record.{Record}
 use Rattle.wm_spec.specs.declared.record.Record.TheVariants as records
@@ -18,14 +20,6 @@ use Rattle.wm_state.specs.ById.{Ascend}
 mark_test : (n : ℕ) → Tests as_mark (λ (m : Trace). m.space == n) (is_sought (MarksIn n))
 mark_test n (records.Mark m) = refl
 mark_test n _ = refl
-
-any-filter : (p q : Trace → Bool) (ms : List Trace) → list_any p (filter q ms) ≡ list_any (λ m. q m && p m) ms
-any-filter p q [] = refl
-any-filter p q (m ∷ ms) = by_test (q m) (any-filter p q ms)
-  where
-    by_test : (b : Bool) → list_any p (filter q ms) ≡ list_any (λ k. q k && p k) ms → list_any p (cond b (m ∷ filter q ms) (filter q ms)) ≡ ((b && p m) || list_any (λ k. q k && p k) ms)
-    by_test true rest = ap (λ b. p m || b) rest
-    by_test false rest = rest
 
 -- one of the ids whose mark fails a test
 pub marked-next : (p : Trace → Bool) (ss : List Stored) (ids : List ℕ) (i : ℕ) → i < length ids → option_map_or p (option_and_then as_mark (record_at ss (get_or ids i 0))) false ≡ false
@@ -44,9 +38,20 @@ marked-next p ss ids i within fails = sym (ap (λ l. list_any p (kind_at as_mark
         by_kind (Some m) kind fails = rw kind (ap (λ b. b || list_any p (kind_at as_mark ss rest)) fails)
 
 -- some mark of a workspace passes a test
-pub any_marked : (p : Trace → Bool) (n : ℕ) (ss : List Stored) → Ascend ss → list_any p (kind_at as_mark ss (ids_with (is_sought (MarksIn n)) ss)) ≡ list_any (λ (m : Trace). (m.space == n) && p m) (parts_of ss).marks
+any_marked : (p : Trace → Bool) (n : ℕ) (ss : List Stored) → Ascend ss → list_any p (kind_at as_mark ss (ids_with (is_sought (MarksIn n)) ss)) ≡ list_any p (marks_in (parts_of ss) n)
 unfolding parts_of
 any_marked p n ss sorted =
     ap (λ rs. list_any p (filter_map as_mark rs)) (taken-with (is_sought (MarksIn n)) ss sorted)
     ∙ ap (λ ms. list_any p ms) (filter-kind as_mark (λ (m : Trace). m.space == n) (is_sought (MarksIn n)) (mark_test n) (all_of ss))
-    ∙ any-filter p (λ (m : Trace). m.space == n) (filter_map as_mark (all_of ss))
+
+-- ---- what the outline tells of them
+
+-- some mark of a workspace is beyond a position
+pub any_beyond : (limit n : ℕ) (ss : List Stored) → Ascend ss
+    → list_any (λ (m : Trace). nat_lt limit m.position) (kind_at as_mark ss (ids_with (is_sought (MarksIn n)) ss)) ≡ nat_lt (limit + 1) (top (λ (m : Trace). m.position) (marks_in (parts_of ss) n))
+any_beyond limit n ss sorted = any_marked (λ m. nat_lt limit m.position) n ss sorted ∙ beyond_top (λ (m : Trace). m.position) limit (marks_in (parts_of ss) n)
+
+-- some mark of a workspace was made at a place or behind
+pub any_since : (place n : ℕ) (ss : List Stored) → Ascend ss
+    → list_any (λ (m : Trace). nat_le place m.place) (kind_at as_mark ss (ids_with (is_sought (MarksIn n)) ss)) ≡ nat_lt place (top (λ (m : Trace). m.place) (marks_in (parts_of ss) n))
+any_since place n ss sorted = any_marked (λ m. nat_le place m.place) n ss sorted ∙ reached_top (λ (m : Trace). m.place) place (marks_in (parts_of ss) n)

@@ -1,195 +1,208 @@
 //! CreateWorkspace.
-ghost use Rattle.std.specs.Prelude.{◌≡◌, ◌<◌, nat_lt, is_some, ℕ, List, None, true, false, IfOk};
-ghost use Rattle.std.specs.List.{find};
-ghost use Rattle.std.specs.Str.{bytes_eq};
-ghost use Rattle.wm_base.specs.declared.instant.TheConstants.{END};
-ghost use Rattle.wm_plan.specs.Forks.{AreForks};
-ghost use Rattle.wm_plan.specs.Idle.{Idles};
-ghost use Rattle.wm_plan.specs.Planning.{DoesIt};
-ghost use Rattle.wm_graph.specs.Parts.{parts_of};
-ghost use Rattle.wm_graph.specs.Rules.{keep_rules};
-ghost use Rattle.wm_model.specs.Planning.{IsOpen};
-ghost use Rattle.wm_model.specs.Saving.{BearsIn, BearsRoomy, MayBearIn};
-ghost use Rattle.wm_model.specs.Step.{create_workspace, is_name, names_no_workspace, number_limit};
-ghost use Rattle.wm_state.specs.Editing.{stand_of};
-ghost use Rattle.wm_spec.specs.declared.record.savepoint.Savepoint.{Savepoint as OneSavepoint};
-ghost use Rattle.wm_state.specs.Points.{implicit_of, next_place_at, point_at};
-ghost use Rattle.wm_state.specs.Standing.{saved_in};
-ghost use Rattle.wm_state.specs.State.{Session as SessionState};
+ghost use Rattle.std.specs.Prelude.{◌≡◌, is_some, nat_le, nat_lt, IfOk};
+ghost use Rattle.wm_graph.specs.Parts.{Parts, parts_of};
+ghost use Rattle.wm_ground.specs.Grounds.{outline_on};
+ghost use Rattle.wm_ground.specs.Outcomes.{outcome_view};
+ghost use Rattle.wm_model.specs.Step.{bearing, bearing_faults, counting_faults, create_workspace_plan, first_fault, for_home, is_dated, making_stood, number_limit, outcome, place_after, space_named, stands_nowhere};
+ghost use Rattle.wm_outline.specs.Outline.{outline_by};
+ghost use Rattle.wm_plan.specs.Stands.{stand_view};
 
-use crate::ending::ended;
-use crate::saving::{SAVEPOINT_LIMIT, is_last};
+use crate::naming::naming_fault;
+use crate::saving::{has_savepoint, is_full, is_last};
 use std::alloc::Global;
-use wm_base::{Memory, Name};
+use wm_base::{Memory, Name, Refusal};
+use wm_calls::text_given;
 use wm_changes::names::implicit_name;
-use wm_image::Image;
-use wm_plan::answer::Answer;
+use wm_grammar::{Parameter, Procedure};
+use wm_ground::ground::Ground;
+use wm_ground::outcome::{answered, done, refused};
+use wm_plan::given::{fault_of, lacking};
+use wm_plan::names::names_no_workspace;
 use wm_plan::planned::Planned;
 use wm_plan::refuse::{
-    most_savepoints, most_workspaces, not_built, not_latest, savepoint_there, workspace_there,
+    at_its_end, most_savepoints, most_workspaces, no_savepoint, no_workspace, not_latest,
+    savepoint_there, workspace_there,
 };
 use wm_plan::session::{Session, Stand};
-use wm_plan::work::is_spent;
 use wm_spec::record::Space;
 use wm_state::edit::Edit;
+use wm_syntax::statement::Arg;
 
 /// The most workspaces of a store.
 const SPACE_LIMIT: usize = 1_024;
 
-/// Whether one stands so in a workspace: the savepoint is there.
-fn is_there(image: &Image, space: &Space, at: Option<u64>) -> bool
-    ensures { (m : ℕ) → result ≡ is_some (point_at (parts_of image.now) space.now m (stand_of at)) }
+// ---- where one stands
+
+/// The making of the savepoint at which one stands.
+fn making_stood(stand: Stand) -> Option<u64>
+    ensures { result ≡ making_stood (stand_view stand) }
 {
-    match at {
-        None => true,
-        Some(making) => image.savepoint(space.number, making).is_some(),
+    match stand {
+        Stand::At(making) => Some(making),
+        Stand::Latest | Stand::Dated(_) => None,
     }
 }
 
-/// Whether a workspace has no place left for a savepoint that is made so.
-fn is_placeless(space: &Space, at: Option<u64>) -> bool
-    ensures { result ≡ nat_lt number_limit (next_place_at space.now (stand_of at)) }
+/// Whether one stands on a date.
+fn is_dated(stand: Stand) -> bool
+    ensures { result ≡ is_dated (stand_view stand) }
+{
+    matches!(stand, Stand::Dated(_))
+}
+
+/// Whether one stands in a workspace at a savepoint that is not there.
+fn stands_nowhere(ground: Ground<'_>, space: &Space, stand: Stand) -> bool
+    ensures { result ≡ stands_nowhere (outline_by (parts_of ground.entry.image.now) space.now) (stand_view stand) }
+{
+    match stand {
+        Stand::At(making) => ground.savepoint_at(space, making).is_none(),
+        Stand::Latest | Stand::Dated(_) => false,
+    }
+}
+
+// ---- what is wrong
+
+/// Whether a workspace has no place left behind a savepoint that is made where one stands.
+fn is_placeless(space: &Space, stand: Stand) -> bool
+    ensures { (p : Parts) → result ≡ nat_lt number_limit (place_after (outline_by p space.now) (stand_view stand)) }
 {
     let next = space.next_place;
-    at.is_none() && is_last(next)
-}
-
-/// A workspace is born where one stands in another, unless the work is at its end.
-fn bear(
-    alloc: Global,
-    image: &Image,
-    moment: u64,
-    space: &Space,
-    at: Option<u64>,
-    name: Name,
-) -> Result<Planned, Memory>
-    requires rules { keep_rules (parts_of image.now) ≡ true }
-    requires moment { moment < END }
-    requires there { is_some (point_at (parts_of image.now) space.now moment (stand_of at)) ≡ true }
-    ensures does { IfOk result (λ p. (xs : List SessionState) (session : SessionState) → MayBearIn image.now session name space.now → stand_of at ≡ session.stand → DoesIt image.now xs moment p (create_workspace session name)) }
-    ensures idle { IfOk result Idles }
-    ensures few { IfOk result AreForks }
-{
-    if is_spent(&image.counters()) {
-        return ended(alloc, b"WORK");
+    match stand {
+        Stand::Latest => is_last(next),
+        Stand::At(_) | Stand::Dated(_) => false,
     }
-    let edit = Edit::Bear {
-        parent: space.number,
-        at,
-        name,
-    };
-    Planned::editing(alloc, edit, Answer::Fine)
 }
 
-/// A workspace is born where a session stands, unless a counter is at its end.
-fn bear_where(
-    alloc: Global,
-    image: &Image,
-    moment: u64,
-    session: &Session,
-    space: &Space,
-    at: Option<u64>,
-    name: Name,
-) -> Result<Planned, Memory>
-    requires moment { moment < END }
-    requires stands { stand_of at ≡ session.now.stand }
-    requires roomy { BearsRoomy image.now session.now name space.now }
-    ensures does { IfOk result (λ p. (xs : List SessionState) → IsOpen xs session.now → DoesIt image.now xs moment p (create_workspace session.now name)) }
-    ensures idle { IfOk result Idles }
-    ensures few { IfOk result AreForks }
+/// Whether no number is left for another workspace.
+fn is_numberless(ground: Ground<'_>) -> bool
+    ensures { result ≡ nat_lt number_limit (outline_on ground.entry).next_space }
 {
-    if is_placeless(space, at) {
-        return ended(alloc, b"PLACE");
+    ground.next_space() > u64::from(u32::MAX)
+}
+
+/// Whether the store has no room for another workspace.
+fn has_most(ground: Ground<'_>) -> bool
+    ensures { result ≡ nat_le 1024 (outline_on ground.entry).space_count }
+{
+    ground.space_count() >= SPACE_LIMIT
+}
+
+/// Whether a workspace has this name.
+fn is_taken(ground: Ground<'_>, name: &Name) -> bool
+    ensures { result ≡ is_some (space_named name.now (outline_on ground.entry)) }
+{
+    ground.space_named(name.as_bytes()).is_some()
+}
+
+/// What a birth in a workspace is refused for since a counter is at its end.
+fn counting_fault(
+    alloc: Global,
+    ground: Ground<'_>,
+    space: &Space,
+    stand: Stand,
+) -> Result<Option<Refusal>, Memory>
+    ensures { IfOk result (λ fault. fault ≡ first_fault (counting_faults (stand_view stand) (outline_on ground.entry) (outline_by (parts_of ground.entry.image.now) space.now))) }
+{
+    if is_placeless(space, stand) {
+        return Ok(at_its_end(alloc, b"PLACE")?.into_refusal());
     }
     if is_last(space.next_implicit) {
-        return ended(alloc, b"ICP");
+        return Ok(at_its_end(alloc, b"ICP")?.into_refusal());
     }
-    if image.next_space() > u64::from(u32::MAX) {
-        return ended(alloc, b"WORKSPACE");
+    if is_numberless(ground) {
+        return Ok(at_its_end(alloc, b"WORKSPACE")?.into_refusal());
     }
-    if !is_there(image, space, at) {
-        return Ok(Planned::answered(alloc, not_built()));
-    }
-    bear(alloc, image, moment, space, at, name)
+    ground.spent_refusal(alloc)
 }
 
-/// A workspace of a new name is born where a session stands, where there is room.
-fn bear_at(
+/// What it is refused for, in the order of the rows.
+fn bearing_fault(
     alloc: Global,
-    image: &Image,
-    moment: u64,
-    session: &Session,
+    ground: Ground<'_>,
     space: &Space,
-    at: Option<u64>,
-    name: Name,
-) -> Result<Planned, Memory>
-    requires moment { moment < END }
-    requires stands { stand_of at ≡ session.now.stand }
-    requires bears { BearsIn image.now session.now name space.now }
-    requires new { find (λ (x : OneSavepoint). bytes_eq (implicit_of space.now) x.name) (saved_in (parts_of image.now) space.now.number) ≡ None }
-    ensures does { IfOk result (λ p. (xs : List SessionState) → IsOpen xs session.now → DoesIt image.now xs moment p (create_workspace session.now name)) }
-    ensures idle { IfOk result Idles }
-    ensures few { IfOk result AreForks }
+    stand: Stand,
+    name: &Name,
+) -> Result<Option<Refusal>, Memory>
+    ensures { IfOk result (λ fault. fault ≡ first_fault (bearing_faults (stand_view stand) name.now (outline_on ground.entry) (outline_by (parts_of ground.entry.image.now) space.now))) }
 {
-    if image.space_count() >= SPACE_LIMIT {
-        return Ok(Planned::answered(alloc, most_workspaces()));
+    if is_taken(ground, name) {
+        return Ok(workspace_there(name.copy(alloc)?).into_refusal());
     }
-    if image.savepoint_count(space.number) >= SAVEPOINT_LIMIT {
-        return Ok(Planned::answered(alloc, most_savepoints()));
+    if stands_nowhere(ground, space, stand) {
+        // No line leads there, and such a savepoint has no name.
+        return Ok(no_savepoint(Name::from_vec(Vec::new(alloc))).into_refusal());
     }
-    bear_where(alloc, image, moment, session, space, at, name)
-}
-
-/// A workspace of a new name is born in another. On a date none is.
-fn bear_in(
-    alloc: Global,
-    image: &Image,
-    moment: u64,
-    session: &Session,
-    space: &Space,
-    name: Name,
-) -> Result<Planned, Memory>
-    requires moment { moment < END }
-    requires bears { BearsIn image.now session.now name space.now }
-    ensures does { IfOk result (λ p. (xs : List SessionState) → IsOpen xs session.now → DoesIt image.now xs moment p (create_workspace session.now name)) }
-    ensures idle { IfOk result Idles }
-    ensures few { IfOk result AreForks }
-{
     let implicit = implicit_name(alloc, space.next_implicit)?;
-    if image
-        .savepoint_named(space.number, implicit.as_bytes())
-        .is_some()
-    {
-        return Ok(Planned::answered(alloc, savepoint_there(implicit)));
+    if has_savepoint(ground, space, &implicit) {
+        return Ok(savepoint_there(implicit).into_refusal());
     }
-    match session.stand() {
-        Stand::Latest => bear_at(alloc, image, moment, session, space, None, name),
-        Stand::At(making) => bear_at(alloc, image, moment, session, space, Some(making), name),
-        Stand::Dated(_) => Ok(Planned::answered(alloc, not_latest())),
+    if is_dated(stand) {
+        return Ok(not_latest().into_refusal());
+    }
+    if has_most(ground) {
+        return Ok(most_workspaces().into_refusal());
+    }
+    if is_full(ground, space) {
+        return Ok(most_savepoints().into_refusal());
+    }
+    counting_fault(alloc, ground, space, stand)
+}
+
+// ---- what is done
+
+/// A workspace is born where a session stands in another.
+fn bear(
+    alloc: Global,
+    ground: Ground<'_>,
+    session: &Session,
+    space: &Space,
+    name: &Name,
+) -> Result<Planned, Memory>
+    ensures { IfOk result (λ p. outcome_view p ≡ outcome (bearing session.now name.now (outline_on ground.entry) (outline_by (parts_of ground.entry.image.now) space.now))) }
+{
+    let stand = session.stand();
+    match bearing_fault(alloc, ground, space, stand, name)? {
+        Some(refusal) => Ok(refused(alloc, refusal)),
+        None => {
+            let parent = space.number;
+            let at = making_stood(stand);
+            let name = name.copy(alloc)?;
+            done(alloc, Edit::Bear { parent, at, name })
+        }
+    }
+}
+
+/// The same in the session's workspace, which is there in each state that lines lead to.
+fn bear_at_home(
+    alloc: Global,
+    ground: Ground<'_>,
+    session: &Session,
+    name: &Name,
+) -> Result<Planned, Memory>
+    ensures { IfOk result (λ p. outcome_view p ≡ outcome (for_home (bearing session.now name.now (outline_on ground.entry)) session.now (outline_on ground.entry))) }
+{
+    match ground.space_numbered(session.space()) {
+        Some(space) => bear(alloc, ground, session, space, name),
+        None => Ok(answered(alloc, no_workspace(Name::from_vec(Vec::new(alloc))))),
     }
 }
 
 /// CreateWorkspace makes a child of the session's workspace.
-pub fn create_workspace(
+pub fn create_workspace_plan(
     alloc: Global,
-    image: &Image,
-    moment: u64,
+    ground: Ground<'_>,
     session: &Session,
-    name: Name,
+    args: &[Arg],
 ) -> Result<Planned, Memory>
-    requires rules { keep_rules (parts_of image.now) ≡ true }
-    requires moment { moment < END }
-    requires good { is_name name ≡ true }
-    requires plain { names_no_workspace name ≡ false }
-    ensures does { IfOk result (λ p. (xs : List SessionState) → IsOpen xs session.now → DoesIt image.now xs moment p (create_workspace session.now name)) }
-    ensures idle { IfOk result Idles }
-    ensures few { IfOk result AreForks }
+    ensures { IfOk result (λ p. outcome_view p ≡ outcome (create_workspace_plan session.now args.now (outline_on ground.entry))) }
 {
-    if image.space_named(name.as_bytes()).is_some() {
-        return Ok(Planned::answered(alloc, workspace_there(name)));
-    }
-    let Some(space) = image.space(session.space()) else {
-        return Ok(Planned::answered(alloc, not_built()));
+    let call = Procedure::CreateWorkspace;
+    let Some(name) = text_given(call, args, Parameter::Workspace) else {
+        return Ok(lacking(alloc, fault_of(alloc, call, args)?));
     };
-    bear_in(alloc, image, moment, session, space, name)
+    let is_reserved = names_no_workspace(name.as_bytes());
+    if let Some(refusal) = naming_fault(alloc, call, args, name, is_reserved)? {
+        return Ok(refused(alloc, refusal));
+    }
+    bear_at_home(alloc, ground, session, name)
 }

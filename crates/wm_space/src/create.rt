@@ -1,25 +1,22 @@
 //! CREATE TABLE.
-ghost use Rattle.wm_plan.specs.Idle.{Idles};
-ghost use Rattle.std.specs.Prelude.{◌≡◌, ◌<◌, List, true, false, None, IfOk, IfSome, IfNone};
-ghost use Rattle.wm_base.specs.declared.instant.TheConstants.{END};
+ghost use Rattle.std.specs.Prelude.{◌≡◌, ◌∷◌, [], false, true, None, is_some, IfOk, IfSome, IfNone};
 ghost use Rattle.wm_graph.specs.Parts.{parts_of};
-ghost use Rattle.wm_graph.specs.Rules.{keep_rules};
-ghost use Rattle.wm_making.specs.Creating.{names_fault, shape_fault};
-ghost use Rattle.wm_model.specs.Planning.{named};
-ghost use Rattle.wm_model.specs.Step.{create, is_full};
+ghost use Rattle.wm_ground.specs.Grounds.{outline_on};
+ghost use Rattle.wm_ground.specs.Outcomes.{outcome_view};
+ghost use Rattle.wm_making.specs.Creating.{names_fault, shape_fault, table_of};
+ghost use Rattle.wm_model.specs.Step.{create_plan, doing, first_fault, is_full, most_tables, outcome, refused_if, spent, table_there};
 ghost use Rattle.wm_state.specs.Standing.{by_number};
-ghost use Rattle.wm_state.specs.State.{Session as SessionState, next_table};
-ghost use Rattle.wm_plan.specs.Planning.{DoesIt};
+ghost use Rattle.wm_state.specs.State.{next_table, table_named};
+ghost use Rattle.wm_state.specs.declared.edit.Edit.TheVariants as edits;
 
-use crate::ending::ended;
 use std::alloc::Global;
-use wm_base::{Memory, Name};
+use wm_base::{Memory, Name, Refusal};
+use wm_ground::ground::Ground;
+use wm_ground::outcome::{answered, done, refused};
 use wm_image::Image;
 use wm_making::{names_fault, shape_fault, table_of};
-use wm_plan::answer::Answer;
 use wm_plan::planned::Planned;
 use wm_plan::refuse::{most_tables, table_there};
-use wm_plan::work::is_spent;
 use wm_state::edit::Edit;
 use wm_syntax::statement::CreateItems;
 
@@ -38,56 +35,55 @@ fn next_number(image: &Image) -> Option<u16>
     Some(next as u16)
 }
 
-/// Makes a table of a new name.
-fn make(
+/// What the line is refused for before its table is numbered, in the order of the rows.
+fn creating_fault(
     alloc: Global,
-    image: &Image,
-    moment: u64,
-    number: u16,
+    ground: Ground<'_>,
+    name: &Name,
+    items: &CreateItems,
+) -> Result<Option<Refusal>, Memory>
+    ensures { IfOk result (λ fault. fault ≡ first_fault (names_fault name.now items.now ∷ refused_if (is_some (table_named name.now (outline_on ground.entry).tables)) (table_there name.now) ∷ shape_fault items.now ∷ [])) }
+{
+    if let Some(refusal) = names_fault(alloc, name, items)? {
+        return Ok(Some(refusal));
+    }
+    if ground.table_named(name.as_bytes()).is_some() {
+        return Ok(table_there(name.copy(alloc)?).into_refusal());
+    }
+    shape_fault(alloc, items)
+}
+
+/// The table is made, where there is room for it.
+fn create(
+    alloc: Global,
+    ground: Ground<'_>,
     name: &Name,
     items: &CreateItems,
 ) -> Result<Planned, Memory>
-    requires rules { keep_rules (parts_of image.now) ≡ true }
-    requires moment { moment < END }
-    requires number { number ≡ next_table (by_number (parts_of image.now).tables) }
-    requires room { is_full (by_number (parts_of image.now).tables) ≡ false }
-    requires new { named image.now name.now ≡ None }
-    requires named { names_fault name.now items.now ≡ None }
-    requires shaped { shape_fault items.now ≡ None }
-    ensures does { IfOk result (λ p. (xs : List SessionState) → DoesIt image.now xs moment p (create name.now items.now)) }
-    ensures idle { IfOk result Idles }
+    requires { shape_fault items.now ≡ None }
+    ensures { IfOk result (λ p. outcome_view p ≡ outcome (doing (refused_if (is_full (outline_on ground.entry).tables) most_tables ∷ spent (outline_on ground.entry) ∷ []) (edits.Create (table_of (next_table (outline_on ground.entry).tables) name.now items.now) ∷ []))) }
 {
-    if is_spent(&image.counters()) {
-        return ended(alloc, b"WORK");
+    let Some(number) = next_number(ground.image) else {
+        return Ok(answered(alloc, most_tables()));
+    };
+    if let Some(refusal) = ground.spent_refusal(alloc)? {
+        return Ok(refused(alloc, refusal));
     }
     let table = table_of(alloc, number, name.copy(alloc)?, items)?;
-    Planned::editing(alloc, Edit::Create(table), Answer::Fine)
+    done(alloc, Edit::Create(table))
 }
 
 /// CREATE TABLE makes a table.
-pub fn create(
+pub fn create_plan(
     alloc: Global,
-    image: &Image,
-    moment: u64,
+    ground: Ground<'_>,
     name: &Name,
     items: &CreateItems,
 ) -> Result<Planned, Memory>
-    requires rules { keep_rules (parts_of image.now) ≡ true }
-    requires moment { moment < END }
-    ensures does { IfOk result (λ p. (xs : List SessionState) → DoesIt image.now xs moment p (create name.now items.now)) }
-    ensures idle { IfOk result Idles }
+    ensures { IfOk result (λ p. outcome_view p ≡ outcome (create_plan name.now items.now (outline_on ground.entry))) }
 {
-    if let Some(refusal) = names_fault(alloc, name, items)? {
-        return Ok(Planned::answered(alloc, Answer::Refused(refusal)));
+    match creating_fault(alloc, ground, name, items)? {
+        Some(refusal) => Ok(refused(alloc, refusal)),
+        None => create(alloc, ground, name, items),
     }
-    if image.table(name.as_bytes()).is_some() {
-        return Ok(Planned::answered(alloc, table_there(name.copy(alloc)?)));
-    }
-    if let Some(refusal) = shape_fault(alloc, items)? {
-        return Ok(Planned::answered(alloc, Answer::Refused(refusal)));
-    }
-    let Some(number) = next_number(image) else {
-        return Ok(Planned::answered(alloc, most_tables()));
-    };
-    make(alloc, image, moment, number, name, items)
 }

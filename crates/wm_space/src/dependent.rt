@@ -1,23 +1,34 @@
-//! What hangs on a workspace behind a savepoint of it: marks of it, and children that took what came behind.
+//! What hangs on a workspace behind a savepoint of it: savepoints and marks of it, and children that took what came
+//! behind.
 
-ghost use Rattle.std.specs.Prelude.{◌≡◌, nat_le, nat_lt, true, false};
-ghost use Rattle.std.specs.List.{list_any};
-ghost use Rattle.std.specs.Option.{option_and_then, option_copied, option_map_or};
+ghost use Rattle.std.specs.Prelude.{◌≡◌, ◌+◌, nat_le, nat_lt, false};
+ghost use Rattle.std.specs.List.{find, list_all, list_any};
+ghost use Rattle.std.specs.Option.{option_and_then, option_copied, option_map, option_map_or};
 ghost use Rattle.wm_graph.specs.Parts.{as_mark, as_space, parts_of};
-ghost use Rattle.wm_graph.specs.Rules.{keep_rules};
+ghost use Rattle.wm_ground.specs.Grounds.{outline_on};
 ghost use Rattle.wm_index.specs.Kinds.{passing};
-ghost use Rattle.wm_model.specs.Step.{decides_beyond};
-ghost use Rattle.wm_model.specs.Undone.{is_dependent, is_marked_beyond, is_marked_since};
+ghost use Rattle.wm_model.specs.Step.{decides_beyond, depends, stays_behind};
+ghost use Rattle.wm_outline.specs.Outline.{outline_by};
 ghost use Rattle.wm_spec.specs.declared.record.trace.Trace.{Trace as OneTrace};
-ghost use Rattle.wm_state.specs.Firsts.{first_recorded};
+ghost use Rattle.wm_state.specs.Standing.{saved_fields};
 ghost use Rattle.wm_state.specs.State.{Decision as OneDecision};
 
 use wm_decided::decision::Decision;
+use wm_ground::ground::Ground;
 use wm_image::Image;
 use wm_image::children::lesser;
 use wm_index::kinds::space_of;
 use wm_plan::session::Session;
 use wm_spec::record::{Record, Savepoint, Space, Trace};
+
+// ---- savepoints and marks
+
+/// Whether each savepoint of a workspace stays where it goes back to this one.
+pub fn all_stay_behind(image: &Image, space: &Space, savepoint: &Savepoint) -> bool
+    ensures { result ≡ list_all (stays_behind (saved_fields savepoint.now)) (outline_by (parts_of image.now) space.now).savepoints }
+{
+    !image.has_savepoint_behind(space.number, savepoint.place, savepoint.log_length)
+}
 
 /// A record as a mark.
 fn mark_of(found: Option<&Record>) -> Option<&Trace>
@@ -40,11 +51,11 @@ fn is_since(found: Option<&Record>, place: u32) -> bool
 }
 
 /// Whether a mark of a workspace was made at a place of it or behind.
-pub fn is_marked_since(image: &Image, place: u32, space: u32) -> bool
-    ensures { result ≡ is_marked_since (parts_of image.now) place space }
+pub fn is_marked_since(image: &Image, place: u32, space: &Space) -> bool
+    ensures { result ≡ nat_lt place (outline_by (parts_of image.now) space.now).marks_since }
 {
     image.law_of_order();
-    for id in image.marks_in(space) {
+    for id in image.marks_in(space.number) {
         if is_since(image.record(*id), place) {
             return true;
         }
@@ -63,17 +74,19 @@ fn is_beyond(found: Option<&Record>, limit: u64) -> bool
 }
 
 /// Whether a mark of a workspace is at a position beyond a length of its parent's log.
-fn is_marked_beyond(image: &Image, limit: u64, space: u32) -> bool
-    ensures { result ≡ is_marked_beyond (parts_of image.now) limit space }
+fn is_marked_beyond(image: &Image, limit: u64, space: &Space) -> bool
+    ensures { result ≡ nat_lt (limit + 1) (outline_by (parts_of image.now) space.now).marks_reach }
 {
     image.law_of_order();
-    for id in image.marks_in(space) {
+    for id in image.marks_in(space.number) {
         if is_beyond(image.record(*id), limit) {
             return true;
         }
     }
     false
 }
+
+// ---- decisions
 
 /// Whether one of some decisions is at such a position.
 fn is_decided_beyond(decisions: &[Decision], limit: u64) -> bool
@@ -111,38 +124,34 @@ fn any_decides_beyond(sessions: &[Session], limit: u64, space: u32) -> bool
     false
 }
 
-/// Whether a child of a workspace took what came behind a savepoint of it, or a decision of a resolve of the child did.
-fn is_dependent(
-    image: &Image,
-    sessions: &[Session],
-    parent: u32,
-    savepoint: &Savepoint,
-    child: &Space,
-) -> bool
-    ensures { result ≡ is_dependent (parts_of image.now) sessions.now parent savepoint.now child.now }
+// ---- children
+
+/// Whether a child of a workspace took what came behind a savepoint of it, or a mark or a decision of a resolve of the
+/// child did.
+fn is_dependent(ground: Ground<'_>, space: &Space, savepoint: &Savepoint, child: &Space) -> bool
+    ensures { result ≡ depends (outline_on ground.entry).sessions (outline_by (parts_of ground.entry.image.now) space.now) (saved_fields savepoint.now) (outline_by (parts_of ground.entry.image.now) child.now) }
 {
-    if child.parent != parent || child.number == parent {
+    if child.parent != space.number || child.number == space.number {
         return false;
     }
     let limit = savepoint.log_length;
     (child.birth_place > savepoint.place || child.from > limit)
-        || (is_marked_beyond(image, limit, child.number)
-            || any_decides_beyond(sessions, limit, child.number))
+        || (is_marked_beyond(ground.image, limit, child)
+            || any_decides_beyond(ground.sessions, limit, child.number))
 }
 
 /// A record that is such a child.
 fn dependent_at<'a>(
-    image: &Image,
-    sessions: &[Session],
-    parent: u32,
+    ground: Ground<'_>,
+    space: &Space,
     savepoint: &Savepoint,
     found: Option<&'a Record>,
 ) -> Option<&'a Space>
-    ensures { option_copied result ≡ passing (is_dependent (parts_of image.now) sessions.now parent savepoint.now) (option_and_then as_space (option_copied found.entry)) }
+    ensures { option_copied result ≡ passing (λ r. depends (outline_on ground.entry).sessions (outline_by (parts_of ground.entry.image.now) space.now) (saved_fields savepoint.now) (outline_by (parts_of ground.entry.image.now) r)) (option_and_then as_space (option_copied found.entry)) }
 {
-    let space = space_of(found)?;
-    if is_dependent(image, sessions, parent, savepoint, space) {
-        Some(space)
+    let child = space_of(found)?;
+    if is_dependent(ground, space, savepoint, child) {
+        Some(child)
     } else {
         None
     }
@@ -150,21 +159,16 @@ fn dependent_at<'a>(
 
 /// The first such child, by number.
 pub fn first_dependent<'a>(
-    image: &'a Image,
-    sessions: &[Session],
-    parent: u32,
+    ground: Ground<'a>,
+    space: &Space,
     savepoint: &Savepoint,
 ) -> Option<&'a Space>
-    requires rules { keep_rules (parts_of image.now) ≡ true }
-    ensures { option_copied result ≡ first_recorded (is_dependent (parts_of image.now) sessions.now parent savepoint.now) (parts_of image.now).spaces }
+    ensures { find (depends (outline_on ground.entry).sessions (outline_by (parts_of ground.entry.image.now) space.now) (saved_fields savepoint.now)) (outline_on ground.entry).spaces ≡ option_map (outline_by (parts_of ground.entry.image.now)) (option_copied result) }
 {
     let mut first = None;
-    for id in image.spaces() {
-        let found = image.record(*id);
-        first = lesser(
-            first,
-            dependent_at(image, sessions, parent, savepoint, found),
-        );
+    for id in ground.image.spaces() {
+        let found = ground.image.record(*id);
+        first = lesser(first, dependent_at(ground, space, savepoint, found));
     }
     first
 }

@@ -1,25 +1,25 @@
 //! EnableVersioning.
-ghost use Rattle.wm_plan.specs.Idle.{Idles};
-ghost use Rattle.std.specs.Prelude.{◌≡◌, ◌<◌, nat_lt, length, List, true, false, None, Some, IfOk};
-ghost use Rattle.wm_base.specs.declared.instant.TheConstants.{END};
-ghost use Rattle.wm_graph.specs.Parts.{parts_of};
-ghost use Rattle.wm_graph.specs.Rules.{has_key, keep_rules};
-ghost use Rattle.wm_model.specs.Planning.{named};
-ghost use Rattle.wm_model.specs.Step.{enable};
-ghost use Rattle.wm_state.specs.State.{Session as SessionState};
-ghost use Rattle.wm_plan.specs.Planning.{DoesIt};
+ghost use Rattle.std.specs.Prelude.{◌≡◌, ◌∷◌, [], nat_lt, length, IfOk};
+ghost use Rattle.std.specs.Option.{option_copied};
+ghost use Rattle.wm_ground.specs.Grounds.{outline_on};
+ghost use Rattle.wm_ground.specs.Outcomes.{outcome_view};
+ghost use Rattle.wm_model.specs.Step.{also, enable_plan, enabling, first_fault, for_table, keeps_history, long_name, no_table, outcome, readiness_given, refused_if};
 ghost use Rattle.wm_space.specs.Readying.{readiness_view};
+ghost use Rattle.wm_state.specs.State.{table_named};
 
-use crate::ending::ended;
 use std::alloc::Global;
-use wm_base::{Memory, Name};
-use wm_image::Image;
-use wm_plan::answer::Answer;
+use wm_base::{Memory, Name, Refusal, Text};
+use wm_calls::{is_true_given, text_given};
+use wm_grammar::{Parameter, Procedure};
+use wm_ground::ground::Ground;
+use wm_ground::outcome::{answered, done, refused};
+use wm_plan::given::{fault_of, lacking};
 use wm_plan::planned::Planned;
 use wm_plan::refuse::{long_name, mistyped, no_key, no_table, versioning};
-use wm_plan::work::is_spent;
+use wm_reader::capitals_of;
 use wm_spec::record::Table;
 use wm_state::edit::Edit;
+use wm_syntax::statement::Arg;
 
 /// How a table becomes ready for rows: with or without valid time, and with or without its history.
 #[derive(Clone, Copy)]
@@ -31,63 +31,106 @@ pub struct Readiness {
 /// The most bytes that the name of a table with views may have.
 const NAME_LIMIT: usize = 25;
 
-/// Makes a table that has a key, and is not ready yet, ready for rows.
-fn make_ready(
-    alloc: Global,
-    image: &Image,
-    moment: u64,
-    name: Name,
-    how: Readiness,
-    table: &Table,
-) -> Result<Planned, Memory>
-    requires rules { keep_rules (parts_of image.now) ≡ true }
-    requires moment { moment < END }
-    requires named { named image.now name ≡ Some table.now }
-    requires off { table.now.versioned ≡ false }
-    requires key { has_key table.now ≡ true }
-    requires short { nat_lt 25 (length name) ≡ false }
-    ensures does { IfOk result (λ p. (xs : List SessionState) → DoesIt image.now xs moment p (enable name (readiness_view how) None)) }
-    ensures idle { IfOk result Idles }
+/// Whether a table keeps its history by this word.
+fn keeps_history(alloc: Global, word: Option<&Text>) -> Result<bool, Memory>
+    ensures { IfOk result (λ keeps. keeps ≡ keeps_history (option_copied word.entry)) }
 {
-    if is_spent(&image.counters()) {
-        return ended(alloc, b"WORK");
+    match word {
+        Some(word) => {
+            let capitals = capitals_of(alloc, word.as_bytes())?;
+            Ok(capitals.as_bytes() == b"VIEW_WO_OVERWRITE".as_slice())
+        }
+        None => Ok(false),
     }
-    let edit = Edit::Enable {
-        name,
-        valid: how.valid,
-        history: how.history,
-    };
-    Planned::editing(alloc, edit, Answer::Fine)
 }
 
-/// EnableVersioning makes a table ready for rows, once. The fault is what is wrong with its arguments.
-pub fn enable(
-    alloc: Global,
-    image: &Image,
-    moment: u64,
-    name: Name,
-    how: Readiness,
-    fault: Option<Name>,
-) -> Result<Planned, Memory>
-    requires rules { keep_rules (parts_of image.now) ≡ true }
-    requires moment { moment < END }
-    ensures does { IfOk result (λ p. (xs : List SessionState) → DoesIt image.now xs moment p (enable name (readiness_view how) fault)) }
-    ensures idle { IfOk result Idles }
+/// How the arguments ask for a table to become ready.
+fn readiness_given(alloc: Global, args: &[Arg]) -> Result<Readiness, Memory>
+    ensures { IfOk result (λ how. readiness_view how ≡ readiness_given args.now) }
 {
-    if name.len() > NAME_LIMIT {
-        return Ok(Planned::answered(alloc, long_name()));
-    }
-    let Some(table) = image.table(name.as_bytes()) else {
-        return Ok(Planned::answered(alloc, no_table(name)));
-    };
+    let history = text_given(Procedure::EnableVersioning, args, Parameter::Hist);
+    Ok(Readiness {
+        valid: is_true_given(Procedure::EnableVersioning, args, Parameter::ValidTime),
+        history: keeps_history(alloc, history)?,
+    })
+}
+
+/// What is refused of a table that is there, in the order of the rows.
+fn enabling_fault(
+    alloc: Global,
+    ground: Ground<'_>,
+    args: &[Arg],
+    name: &Name,
+    table: &Table,
+) -> Result<Option<Refusal>, Memory>
+    ensures { IfOk result (λ fault. fault ≡ first_fault (enabling name.now args.now (outline_on ground.entry) table.now).faults) }
+{
     if table.versioned {
-        return Ok(Planned::answered(alloc, versioning(name, true)));
+        return Ok(versioning(name.copy(alloc)?, true).into_refusal());
     }
-    if let Some(parameter) = fault {
-        return Ok(Planned::answered(alloc, mistyped(parameter)));
+    if let Some(parameter) = fault_of(alloc, Procedure::EnableVersioning, args)? {
+        return Ok(mistyped(parameter).into_refusal());
     }
     if table.key_columns.as_slice().is_empty() {
-        return Ok(Planned::answered(alloc, no_key(name)));
+        return Ok(no_key(name.copy(alloc)?).into_refusal());
     }
-    make_ready(alloc, image, moment, name, how, table)
+    ground.spent_refusal(alloc)
+}
+
+/// A table that is there becomes ready.
+fn enable(
+    alloc: Global,
+    ground: Ground<'_>,
+    args: &[Arg],
+    name: Name,
+    table: &Table,
+) -> Result<Planned, Memory>
+    ensures { IfOk result (λ p. outcome_view p ≡ outcome (enabling name args.now (outline_on ground.entry) table.now)) }
+{
+    if let Some(refusal) = enabling_fault(alloc, ground, args, &name, table)? {
+        return Ok(refused(alloc, refusal));
+    }
+    let how = readiness_given(alloc, args)?;
+    done(
+        alloc,
+        Edit::Enable {
+            name,
+            valid: how.valid,
+            history: how.history,
+        },
+    )
+}
+
+/// The table of a name becomes ready, where its views can be named.
+fn enable_named(
+    alloc: Global,
+    ground: Ground<'_>,
+    args: &[Arg],
+    name: Name,
+) -> Result<Planned, Memory>
+    ensures { IfOk result (λ p. outcome_view p ≡ outcome (also (refused_if (nat_lt 25 (length name)) long_name ∷ []) (for_table (no_table name) (enabling name args.now (outline_on ground.entry)) (table_named name (outline_on ground.entry).tables)))) }
+{
+    if name.len() > NAME_LIMIT {
+        return Ok(answered(alloc, long_name()));
+    }
+    match ground.table_named(name.as_bytes()) {
+        Some(table) => enable(alloc, ground, args, name, table),
+        None => Ok(answered(alloc, no_table(name))),
+    }
+}
+
+/// EnableVersioning makes a table ready for rows, once.
+pub fn enable_plan(alloc: Global, ground: Ground<'_>, args: &[Arg]) -> Result<Planned, Memory>
+    ensures { IfOk result (λ p. outcome_view p ≡ outcome (enable_plan args.now (outline_on ground.entry))) }
+{
+    match text_given(Procedure::EnableVersioning, args, Parameter::TableName) {
+        Some(table) => {
+            let name = capitals_of(alloc, table.as_bytes())?;
+            enable_named(alloc, ground, args, name)
+        }
+        None => {
+            let fault = fault_of(alloc, Procedure::EnableVersioning, args)?;
+            Ok(lacking(alloc, fault))
+        }
+    }
 }

@@ -1,29 +1,22 @@
 //! GotoWorkspace, GotoSavepoint and GotoDate.
-ghost use Rattle.wm_plan.specs.Idle.{Idles};
-ghost use Rattle.std.specs.Prelude.{◌≡◌, ℕ, List, [], true, IfOk};
+ghost use Rattle.std.specs.Prelude.{◌≡◌, [], IfOk};
 ghost use Rattle.std.specs.Option.{option_and_then};
-ghost use Rattle.wm_plan.specs.Planning.{DoesIt};
-ghost use Rattle.wm_plan.specs.Stands.{stand_view};
-ghost use Rattle.wm_plan.specs.Views.{answer_view, seating_view};
 ghost use Rattle.wm_graph.specs.Parts.{Parts as PartsOf, parts_of};
-ghost use Rattle.wm_graph.specs.Rules.{keep_rules};
 ghost use Rattle.wm_ground.specs.Grounds.{outline_on};
 ghost use Rattle.wm_ground.specs.Outcomes.{outcome_view};
-ghost use Rattle.wm_model.specs.Planning.{IsOpen, Set};
 ghost use Rattle.wm_model.specs.Step.Sessions as settings;
-ghost use Rattle.wm_model.specs.Step.{early_fault, goto_date_plan, goto_savepoint, goto_workspace, outcome, space_numbered};
+ghost use Rattle.wm_model.specs.Step.{early_fault, for_home, for_named, for_savepoint, goto_date_plan, goto_savepoint_plan, goto_workspace_plan, no_savepoint, no_workspace, outcome, savepoint_called, setting, space_named, space_numbered, standing};
 ghost use Rattle.wm_outline.specs.Outline.{outline_by};
-ghost use Rattle.wm_print.specs.Texts.{Fine};
-ghost use Rattle.wm_state.specs.State.{Session as SessionState};
+ghost use Rattle.wm_plan.specs.Stands.{stand_view};
+ghost use Rattle.wm_state.specs.State.{At, Latest};
 
 use std::alloc::Global;
 use wm_base::{Instant, Memory, Name, Refusal};
 use wm_calls::moment_given;
 use wm_grammar::{Parameter, Procedure};
 use wm_ground::ground::Ground;
-use wm_ground::outcome::{answered, refused, seated};
-use wm_image::Image;
-use wm_plan::given::fault_of;
+use wm_ground::outcome::{answered, refused, seated, setting};
+use wm_plan::given::{bytes_given, fault_of};
 use wm_plan::names::is_latest;
 use wm_plan::planned::Planned;
 use wm_plan::refuse::{date_before, mistyped, no_savepoint, no_workspace};
@@ -32,53 +25,106 @@ use wm_plan::session::{Session, Setting, Stand};
 use wm_spec::record::Space;
 use wm_syntax::statement::Arg;
 
-/// Stands a session elsewhere.
-fn go(alloc: Global, session: &Session, space: u32, stand: Stand) -> Result<Planned, Memory>
-    ensures edits { IfOk result (λ p. p.edits.items ≡ []) }
-    ensures seating { IfOk result (λ p. seating_view p.seating ≡ Set session.now.name (settings.Stand space (stand_view stand))) }
-    ensures answer { IfOk result (λ p. answer_view p.answer ≡ Fine) }
+/// Stands a session so in its workspace.
+fn stand(alloc: Global, session: &Session, stand: Stand) -> Result<Planned, Memory>
+    ensures { IfOk result (λ p. outcome_view p ≡ outcome (standing session.now (stand_view stand))) }
 {
-    let name = session.name().copy(alloc)?;
-    let setting = Setting::Stand { space, stand };
-    Ok(Planned::seated(alloc, Seating::Set { name, setting }))
+    let space = session.space();
+    setting(alloc, session, Setting::Stand { space, stand })
+}
+
+/// Stands a session in the workspace of a name, at what is newest.
+fn enter(
+    alloc: Global,
+    ground: Ground<'_>,
+    session: &Session,
+    name: &[u8],
+) -> Result<Planned, Memory>
+    ensures { IfOk result (λ p. outcome_view p ≡ outcome (for_named (no_workspace name.now) (λ x. setting [] session.now (settings.Stand x.number Latest)) (space_named name.now (outline_on ground.entry)))) }
+{
+    match ground.space_named(name) {
+        Some(space) => setting(
+            alloc,
+            session,
+            Setting::Stand {
+                space: space.number,
+                stand: Stand::Latest,
+            },
+        ),
+        None => Ok(answered(alloc, no_workspace(Name::copy_of(alloc, name)?))),
+    }
 }
 
 /// GotoWorkspace stands the session in a workspace, at what is newest.
-pub fn goto_workspace(
+pub fn goto_workspace_plan(
     alloc: Global,
-    image: &Image,
+    ground: Ground<'_>,
+    session: &Session,
+    args: &[Arg],
+) -> Result<Planned, Memory>
+    ensures { IfOk result (λ p. outcome_view p ≡ outcome (goto_workspace_plan session.now args.now (outline_on ground.entry))) }
+{
+    if let Some(parameter) = fault_of(alloc, Procedure::GotoWorkspace, args)? {
+        return Ok(answered(alloc, mistyped(parameter)));
+    }
+    let name = bytes_given(Procedure::GotoWorkspace, args, Parameter::Workspace, b"");
+    enter(alloc, ground, session, name)
+}
+
+/// Stands a session at the savepoint of a name, in a workspace that is its own.
+fn stand_saved(
+    alloc: Global,
+    ground: Ground<'_>,
+    session: &Session,
+    space: &Space,
+    name: &[u8],
+) -> Result<Planned, Memory>
+    ensures { IfOk result (λ p. outcome_view p ≡ outcome (for_savepoint (no_savepoint name.now) (λ k. standing session.now (At k.making)) (savepoint_called name.now (outline_by (parts_of ground.entry.image.now) space.now)))) }
+{
+    match ground.savepoint_called(space, name) {
+        Some(savepoint) => stand(alloc, session, Stand::At(savepoint.making)),
+        None => Ok(answered(alloc, no_savepoint(Name::copy_of(alloc, name)?))),
+    }
+}
+
+/// Stands a session at the savepoint of a name in its workspace.
+fn stand_home(
+    alloc: Global,
+    ground: Ground<'_>,
     session: &Session,
     name: &[u8],
 ) -> Result<Planned, Memory>
-    requires rules { keep_rules (parts_of image.now) ≡ true }
-    ensures does { IfOk result (λ p. (xs : List SessionState) (m : ℕ) → DoesIt image.now xs m p (goto_workspace session.now name.now)) }
-    ensures idle { IfOk result Idles }
+    ensures { IfOk result (λ p. outcome_view p ≡ outcome (for_home (λ x. for_savepoint (no_savepoint name.now) (λ k. standing session.now (At k.making)) (savepoint_called name.now x)) session.now (outline_on ground.entry))) }
 {
-    let Some(space) = image.space_named(name) else {
-        return Ok(Planned::answered(alloc, no_workspace(Name::copy_of(alloc, name)?)));
-    };
-    go(alloc, session, space.number, Stand::Latest)
+    match ground.space_numbered(session.space()) {
+        Some(space) => stand_saved(alloc, ground, session, space, name),
+        // No line leads there.
+        None => Ok(answered(alloc, no_workspace(Name::from_vec(Vec::new(alloc))))),
+    }
 }
 
 /// GotoSavepoint stands the session at a savepoint of its workspace, or at what is newest.
-pub fn goto_savepoint(
+pub fn goto_savepoint_plan(
     alloc: Global,
-    image: &Image,
+    ground: Ground<'_>,
     session: &Session,
-    name: &[u8],
+    args: &[Arg],
 ) -> Result<Planned, Memory>
-    requires rules { keep_rules (parts_of image.now) ≡ true }
-    ensures does { IfOk result (λ p. (xs : List SessionState) (m : ℕ) → IsOpen xs session.now → DoesIt image.now xs m p (goto_savepoint session.now name.now)) }
-    ensures idle { IfOk result Idles }
+    ensures { IfOk result (λ p. outcome_view p ≡ outcome (goto_savepoint_plan session.now args.now (outline_on ground.entry))) }
 {
-    let space = session.space();
-    if is_latest(name) {
-        return go(alloc, session, space, Stand::Latest);
+    if let Some(parameter) = fault_of(alloc, Procedure::GotoSavepoint, args)? {
+        return Ok(answered(alloc, mistyped(parameter)));
     }
-    let Some(savepoint) = image.savepoint_named(space, name) else {
-        return Ok(Planned::answered(alloc, no_savepoint(Name::copy_of(alloc, name)?)));
-    };
-    go(alloc, session, space, Stand::At(savepoint.making))
+    let name = bytes_given(
+        Procedure::GotoSavepoint,
+        args,
+        Parameter::SavepointName,
+        b"LATEST",
+    );
+    if is_latest(name) {
+        return stand(alloc, session, Stand::Latest);
+    }
+    stand_home(alloc, ground, session, name)
 }
 
 /// What a date is refused for in a workspace: it is before its birth. No line is run behind the end of time.

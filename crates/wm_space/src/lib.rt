@@ -4,18 +4,18 @@
 #![tactic(auto)]
 
 pub mod at;
-mod bearing;
-pub mod calls;
-mod comparing;
+pub mod bearing;
+pub mod comparing;
 pub mod connect;
 pub mod create;
 mod dependent;
-mod enable;
+pub mod enable;
 pub mod ending;
-mod going;
+pub mod going;
 mod locks;
-mod looking;
+pub mod looking;
+mod naming;
 pub mod removing;
-mod rolling;
+pub mod rolling;
 pub mod saving;
-mod valid_time;
+pub mod valid_time;

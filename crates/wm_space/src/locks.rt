@@ -5,6 +5,7 @@ ghost use Rattle.std.specs.Option.{option_and_then, option_copied, option_map_or
 ghost use Rattle.wm_graph.specs.Parts.{as_lock, parts_of};
 ghost use Rattle.wm_spec.specs.declared.record.lock.Lock.{Lock as OneLock};
 ghost use Rattle.wm_state.specs.Editing.{stays_held};
+ghost use Rattle.wm_state.specs.Standing.{locks_by_making};
 
 use wm_image::Image;
 use wm_spec::record::{Lock, Record};
@@ -31,7 +32,7 @@ fn is_before(found: Option<&Record>, place: u32) -> bool
 
 /// Whether each lock of a workspace was made before a place of it.
 pub fn are_before(image: &Image, place: u32, space: u32) -> bool
-    ensures { result ≡ list_all (stays_held space place) (parts_of image.now).locks }
+    ensures { result ≡ list_all (stays_held space place) (locks_by_making (parts_of image.now).locks) }
 {
     image.law_of_order();
     let Some(ids) = image.locks_of(space) else {

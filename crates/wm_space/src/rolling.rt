@@ -1,148 +1,175 @@
 //! RollbackToSP.
-ghost use Rattle.std.specs.Prelude.{◌≡◌, ◌<◌, ℕ, List, true, None, IfOk};
-ghost use Rattle.std.specs.Option.{option_copied};
+ghost use Rattle.std.specs.Prelude.{◌≡◌, None, if◌then◌else◌, IfOk};
+ghost use Rattle.std.specs.Option.{option_copied, option_or};
 ghost use Rattle.std.specs.List.{find};
-ghost use Rattle.wm_base.specs.declared.instant.TheConstants.{END};
 ghost use Rattle.wm_graph.specs.Parts.{parts_of};
-ghost use Rattle.wm_graph.specs.Rules.{keep_rules};
-ghost use Rattle.wm_model.specs.Step.{rollback_to};
-ghost use Rattle.wm_model.specs.Undone.{RollsIn, is_still_at, rolling_refusal, sits_behind};
-ghost use Rattle.wm_plan.specs.Idle.{Idles};
-ghost use Rattle.wm_plan.specs.Planning.{DoesIt};
-ghost use Rattle.wm_state.specs.State.{Session as SessionState};
+ghost use Rattle.wm_ground.specs.Grounds.{outline_on};
+ghost use Rattle.wm_ground.specs.Outcomes.{outcome_view};
+ghost use Rattle.wm_model.specs.Step.{first_fault, for_named, for_savepoint, is_still, no_savepoint, no_workspace, outcome, rollback_plan, rolling, rolling_faults, savepoint_called, space_named, spent, stands_behind, stays_behind, would_go};
+ghost use Rattle.wm_outline.specs.Outline.{outline_by};
+ghost use Rattle.wm_plan.specs.Stands.{stand_view};
+ghost use Rattle.wm_state.specs.Standing.{saved_fields};
 
-use crate::dependent::{first_dependent, is_marked_since};
-use crate::ending::ended;
+use crate::dependent::{all_stay_behind, first_dependent, is_marked_since};
 use crate::locks::are_before;
 use crate::removing::inside_refusal;
 use std::alloc::Global;
 use wm_base::{Memory, Name, Refusal};
-use wm_image::Image;
+use wm_calls::text_given;
+use wm_grammar::{Parameter, Procedure};
+use wm_ground::ground::Ground;
+use wm_ground::outcome::{answered, done, refused};
 use wm_plan::answer::Answer;
+use wm_plan::given::{bytes_given, fault_of, lacking};
+use wm_plan::names::is_latest;
 use wm_plan::planned::Planned;
-use wm_plan::refuse::{dependent_child, no_savepoint, no_workspace, rebased_since};
-use wm_plan::resolving::resolving_refusal;
+use wm_plan::refuse::{
+    dependent_child, mistyped, no_savepoint, no_workspace, rebased_since, reserved_name,
+};
 use wm_plan::session::{Session, Stand};
-use wm_plan::work::is_spent;
 use wm_spec::record::{Savepoint, Space};
 use wm_state::edit::Edit;
+use wm_syntax::statement::Arg;
 
-/// Whether a session stands at a savepoint of the workspace that would go with a rollback to another one.
-fn sits_behind(image: &Image, space: u32, savepoint: &Savepoint, session: &Session) -> bool
-    ensures { result ≡ sits_behind (parts_of image.now) space savepoint.now session.now }
+// ---- what is in the way
+
+/// Whether a savepoint stays where its workspace goes back to another one.
+fn stays_behind(savepoint: &Savepoint, other: &Savepoint) -> bool
+    ensures { result ≡ stays_behind (saved_fields savepoint.now) (saved_fields other.now) }
 {
-    let Stand::At(making) = session.stand() else {
+    other.place <= savepoint.place && other.log_length <= savepoint.log_length
+}
+
+/// Whether one stands where a rollback to a savepoint would leave nothing.
+fn would_go(ground: Ground<'_>, space: &Space, savepoint: &Savepoint, stand: Stand) -> bool
+    ensures { result ≡ would_go (outline_by (parts_of ground.entry.image.now) space.now) (saved_fields savepoint.now) (stand_view stand) }
+{
+    let Stand::At(making) = stand else {
         return false;
     };
-    if session.space() != space {
-        return false;
-    }
-    match image.savepoint(space, making) {
-        Some(other) => { other.place > savepoint.place || other.log_length > savepoint.log_length }
+    match ground.savepoint_at(space, making) {
+        Some(other) => !stays_behind(savepoint, other),
         None => false,
     }
 }
 
-/// The first session, in the order of CONNECT, that stands so.
-fn first_behind<'a>(
-    image: &Image,
-    sessions: &'a [Session],
-    space: u32,
+/// Whether a session stands so in the workspace.
+fn stands_behind(
+    ground: Ground<'_>,
+    space: &Space,
     savepoint: &Savepoint,
-) -> Option<&'a Session>
-    ensures { option_copied result ≡ find (sits_behind (parts_of image.now) space savepoint.now) sessions.now }
+    session: &Session,
+) -> bool
+    ensures { result ≡ stands_behind (outline_by (parts_of ground.entry.image.now) space.now) (saved_fields savepoint.now) session.now }
 {
-    for session in sessions {
-        if sits_behind(image, space, savepoint, session) {
+    session.space() == space.number && would_go(ground, space, savepoint, session.stand())
+}
+
+/// The first session, in the order of CONNECT, that does.
+fn first_behind<'a>(ground: Ground<'a>, space: &Space, savepoint: &Savepoint) -> Option<&'a Session>
+    ensures { option_copied result ≡ find (stands_behind (outline_by (parts_of ground.entry.image.now) space.now) (saved_fields savepoint.now)) ground.entry.sessions.now }
+{
+    for session in ground.sessions {
+        if stands_behind(ground, space, savepoint, session) {
             return Some(session);
         }
     }
     None
 }
 
-/// What a rollback to a savepoint is refused for: a session stands at a later one, a child, or a decision of a resolve of
-/// one, took of the workspace what came behind it, the workspace was rebased since, or a resolve of it is open.
-fn rolling_refusal(
+/// Whether nothing came behind a savepoint: neither a change nor another savepoint nor a mark nor a lock.
+fn is_still(ground: Ground<'_>, space: &Space, savepoint: &Savepoint) -> bool
+    ensures { result ≡ is_still (outline_on ground.entry) (outline_by (parts_of ground.entry.image.now) space.now) (saved_fields savepoint.now) }
+{
+    space.log_length <= savepoint.log_length
+        && all_stay_behind(ground.image, space, savepoint)
+        && !is_marked_since(ground.image, savepoint.place, space)
+        && are_before(ground.image, savepoint.place, space.number)
+}
+
+/// What a rollback to a savepoint is refused for, whether or not anything came behind it: a session stands at a later
+/// one, a child, or a mark or a decision of a resolve of one, took of the workspace what came behind it, the workspace
+/// was rebased since, or a resolve of it is open.
+fn rolling_fault(
     alloc: Global,
-    image: &Image,
-    sessions: &[Session],
+    ground: Ground<'_>,
     space: &Space,
     savepoint: &Savepoint,
 ) -> Result<Option<Refusal>, Memory>
-    requires rules { keep_rules (parts_of image.now) ≡ true }
-    ensures { IfOk result (λ fault. fault ≡ rolling_refusal (parts_of image.now) sessions.now space.now savepoint.now) }
+    ensures { IfOk result (λ fault. option_or fault (if is_still (outline_on ground.entry) (outline_by (parts_of ground.entry.image.now) space.now) (saved_fields savepoint.now) then None else spent (outline_on ground.entry)) ≡ first_fault (rolling_faults (outline_on ground.entry) (outline_by (parts_of ground.entry.image.now) space.now) (saved_fields savepoint.now))) }
 {
-    if let Some(session) = first_behind(image, sessions, space.number, savepoint) {
+    if let Some(session) = first_behind(ground, space, savepoint) {
         return inside_refusal(alloc, space, session);
     }
-    if let Some(child) = first_dependent(image, sessions, space.number, savepoint) {
+    if let Some(child) = first_dependent(ground, space, savepoint) {
         return Ok(dependent_child(child.name.copy(alloc)?).into_refusal());
     }
     if savepoint.rebases != space.rebases {
         return Ok(rebased_since(savepoint.name.copy(alloc)?).into_refusal());
     }
-    resolving_refusal(alloc, sessions, space)
+    ground.resolve_refusal(alloc, space)
 }
 
-/// Whether nothing came behind a savepoint: neither a change nor another savepoint nor a mark nor a lock.
-fn is_still(image: &Image, space: &Space, savepoint: &Savepoint) -> bool
-    ensures { result ≡ is_still_at (parts_of image.now) space.now savepoint.now }
-{
-    space.log_length <= savepoint.log_length
-        && !image.has_savepoint_behind(space.number, savepoint.place, savepoint.log_length)
-        && !is_marked_since(image, savepoint.place, space.number)
-        && are_before(image, savepoint.place, space.number)
-}
+// ---- what is done
 
-/// A workspace goes back to a savepoint for which nothing refuses it, unless the work is at its end. Where nothing came
-/// behind the savepoint nothing changes.
-fn roll_back(
+/// A workspace goes back to a savepoint of it. Where nothing came behind the savepoint nothing changes.
+fn roll(
     alloc: Global,
-    image: &Image,
-    moment: u64,
+    ground: Ground<'_>,
     space: &Space,
     savepoint: &Savepoint,
 ) -> Result<Planned, Memory>
-    requires rules { keep_rules (parts_of image.now) ≡ true }
-    requires moment { moment < END }
-    ensures does { IfOk result (λ p. (xs : List SessionState) (workspace name : List ℕ) → RollsIn image.now workspace name space.now savepoint.now → rolling_refusal (parts_of image.now) xs space.now savepoint.now ≡ None → DoesIt image.now xs moment p (rollback_to workspace name)) }
-    ensures idle { IfOk result Idles }
+    ensures { IfOk result (λ p. outcome_view p ≡ outcome (rolling (outline_on ground.entry) (outline_by (parts_of ground.entry.image.now) space.now) (saved_fields savepoint.now))) }
 {
-    if is_still(image, space, savepoint) {
-        return Ok(Planned::answered(alloc, Answer::Fine));
+    if let Some(refusal) = rolling_fault(alloc, ground, space, savepoint)? {
+        return Ok(refused(alloc, refusal));
     }
-    if is_spent(&image.counters()) {
-        return ended(alloc, b"WORK");
+    if is_still(ground, space, savepoint) {
+        return Ok(answered(alloc, Answer::Fine));
+    }
+    if let Some(ended) = ground.spent_refusal(alloc)? {
+        return Ok(refused(alloc, ended));
     }
     let edit = Edit::Restore {
         space: space.number,
         making: savepoint.making,
     };
-    Planned::editing(alloc, edit, Answer::Fine)
+    done(alloc, edit)
 }
 
-/// RollbackToSP takes a workspace back to one of its savepoints.
-pub fn rollback_to(
+/// The workspace of a name goes back to its savepoint of a name.
+fn roll_named(
     alloc: Global,
-    image: &Image,
-    sessions: &[Session],
-    moment: u64,
+    ground: Ground<'_>,
     workspace: &[u8],
     name: &[u8],
 ) -> Result<Planned, Memory>
-    requires rules { keep_rules (parts_of image.now) ≡ true }
-    requires moment { moment < END }
-    ensures does { IfOk result (λ p. DoesIt image.now sessions.now moment p (rollback_to workspace.now name.now)) }
-    ensures idle { IfOk result Idles }
+    ensures { IfOk result (λ p. outcome_view p ≡ outcome (for_named (no_workspace workspace.now) (λ x. for_savepoint (no_savepoint name.now) (rolling (outline_on ground.entry) x) (savepoint_called name.now x)) (space_named workspace.now (outline_on ground.entry)))) }
 {
-    let Some(space) = image.space_named(workspace) else {
-        return Ok(Planned::answered(alloc, no_workspace(Name::copy_of(alloc, workspace)?)));
+    let Some(space) = ground.space_named(workspace) else {
+        return Ok(answered(alloc, no_workspace(Name::copy_of(alloc, workspace)?)));
     };
-    let Some(savepoint) = image.savepoint_named(space.number, name) else {
-        return Ok(Planned::answered(alloc, no_savepoint(Name::copy_of(alloc, name)?)));
-    };
-    match rolling_refusal(alloc, image, sessions, space, savepoint)? {
-        Some(refusal) => Ok(Planned::answered(alloc, Answer::Refused(refusal))),
-        None => roll_back(alloc, image, moment, space, savepoint),
+    match ground.savepoint_called(space, name) {
+        Some(savepoint) => roll(alloc, ground, space, savepoint),
+        None => Ok(answered(alloc, no_savepoint(Name::copy_of(alloc, name)?))),
     }
+}
+
+/// RollbackToSP takes a workspace back to one of its savepoints.
+pub fn rollback_plan(alloc: Global, ground: Ground<'_>, args: &[Arg]) -> Result<Planned, Memory>
+    ensures { IfOk result (λ p. outcome_view p ≡ outcome (rollback_plan args.now (outline_on ground.entry))) }
+{
+    let fault = fault_of(alloc, Procedure::RollbackToSp, args)?;
+    let Some(savepoint) = text_given(Procedure::RollbackToSp, args, Parameter::SavepointName) else {
+        return Ok(lacking(alloc, fault));
+    };
+    let name = savepoint.as_bytes();
+    if is_latest(name) {
+        return Ok(answered(alloc, reserved_name(Name::copy_of(alloc, name)?)));
+    }
+    if let Some(parameter) = fault {
+        return Ok(answered(alloc, mistyped(parameter)));
+    }
+    let workspace = bytes_given(Procedure::RollbackToSp, args, Parameter::Workspace, b"");
+    roll_named(alloc, ground, workspace, name)
 }

@@ -4,11 +4,9 @@ use Rattle.std.proofs.Common.{◌≡◌, ℕ, ◌+◌, ◌*◌, ◌<◌, ◌≤�
 use Rattle.std.proofs.lemmas.Bool.{ne_eqb, and_parts, or_right, true≢false}
 use Rattle.std.specs.List.{filter}
 use Rattle.std.specs.Option.{option_map_or}
-use Rattle.std.specs.declared.alloc.Global.{Global}
-use Rattle.std.specs.declared.vec.Vec.{Vec}
 use Rattle.wm_graph.specs.Parts.{parts_of}
 use Rattle.wm_model.proofs.Families.{Family, family, gained_same, own_same}
-use Rattle.wm_model.proofs.RollingLine.{home}
+use Rattle.wm_model.proofs.Recorded.{home}
 use Rattle.wm_model.specs.Merged.{after_edits, keep_edits, makings_of, merge_edits, rebase_edits, refresh_edits, replay_edits}
 use Rattle.wm_model.specs.Planning.{StandsAt}
 use Rattle.wm_model.specs.Step.{Asked, parent_in, pending, unlock_edits}
@@ -157,18 +155,18 @@ module _ (rs : List Stored) (workspace : List ℕ) (a b : Space) (s : State) (f 
 
   -- ---- what the two lines change
 
-  refresh_few : (m user_moment : ℕ) (user : List ℕ) (gained : Vec NewEntry Global) (new : List Stored) → IsHeldListing (parts_of rs) user_moment user (gained_held (parts_of rs) a b) (map entry_of gained.items)
+  refresh_few : (m user_moment : ℕ) (user : List ℕ) (gained : List NewEntry) (new : List Stored) → IsHeldListing (parts_of rs) user_moment user (gained_held (parts_of rs) a b) (map entry_of gained)
       → Spends m rs (refresh_edits a.number gained) new → ChangesBeside (is_either b.number a.number) (2 + own_count + marks + 5 * alone) rs new
   refresh_few m user_moment user gained new listed spends =
       let first = rebase_priced m a.number rs spends.next s.durable f.w f.q all f.beside.stands f.is.found f.beside.above own_cut own_ends spends.spent in
       let second = gain_priced m a.number gained spends.next new first.state f.w.lists.log f.w.parent all (touched_alone f.w.lists.own behind) first.stands first.known log_ends (IsSteady-alone all f.w.lists.own behind own_cut behind_cut)
-      (gained_covered user_moment user (map entry_of gained.items) listed) (gained_few user_moment user (map entry_of gained.items) listed) spends.rest in
+      (gained_covered user_moment user (map entry_of gained) listed) (gained_few user_moment user (map entry_of gained) listed) spends.rest in
       beside_then (is_either b.number a.number) (2 + own_count + marks) (5 * alone) rs spends.next new
       (beside_wider (is_head a.number) (is_either b.number a.number) (2 + own_count + marks) rs spends.next (right_head b.number a.number) first.changes)
       (beside_wider (is_head a.number) (is_either b.number a.number) (5 * alone) spends.next new (right_head b.number a.number) second)
 
-  merge_few : (m user_moment : ℕ) (user : List ℕ) (asked : Asked) (even : Bool) (own gained : Vec NewEntry Global) (new : List Stored) → asked.removes ≡ false
-      → IsHeldListing (parts_of rs) user_moment user (own_held (parts_of rs) a) (map entry_of own.items) → IsHeldListing (parts_of rs) user_moment user (gained_held (parts_of rs) a b) (map entry_of gained.items)
+  merge_few : (m user_moment : ℕ) (user : List ℕ) (asked : Asked) (even : Bool) (own gained : List NewEntry) (new : List Stored) → asked.removes ≡ false
+      → IsHeldListing (parts_of rs) user_moment user (own_held (parts_of rs) a) (map entry_of own) → IsHeldListing (parts_of rs) user_moment user (gained_held (parts_of rs) a b) (map entry_of gained)
       → Spends m rs (merge_edits asked even a.number b.number own gained makings) new → ChangesBeside (is_either b.number a.number) (1 + (1 + 6 * own_count) + (2 + marks + 5 * alone) + length makings) rs new
   merge_few m user_moment user asked even own gained new stays own_listed gained_listed spends =
       let one = parted m rs (keep_edits asked.keeps b.number) (replay_edits b.number own ++ after_edits asked.removes even a.number gained makings) new spends in
@@ -176,7 +174,7 @@ module _ (rs : List Stored) (workspace : List ℕ) (a b : Space) (s : State) (f 
       let three = parted m two.between (rebase_edits even a.number gained) (unlock_edits makings) new (subst (λ r. Spends m two.between (after_edits r even a.number gained makings) new) stays two.rest) in
       let kept = keep_priced m a.number b.number asked.keeps rs one.between s.durable f.w.lists.log f.q.lists.log f.w.parent f.q.parent f.beside.stands space_at parent_at one.first in
       let replayed = replay_priced m a.number b.number own one.between two.between kept.state f.w.lists.log f.q.lists.log f.w.parent f.q.parent all (touched f.w.lists.own) apart kept.stands kept.known.0 kept.known.1 above_ends
-      (IsSteady-touched all f.w.lists.own own_cut) (own_covered user_moment user (map entry_of own.items) own_listed) (own_few user_moment user (map entry_of own.items) own_listed) two.first in
+      (IsSteady-touched all f.w.lists.own own_cut) (own_covered user_moment user (map entry_of own) own_listed) (own_few user_moment user (map entry_of own) own_listed) two.first in
       let found = replayed.known.1 in
       beside_then wide (1 + (1 + 6 * own_count) + (2 + marks + 5 * alone)) (length makings) rs three.between new
       (beside_then wide (1 + (1 + 6 * own_count)) (2 + marks + 5 * alone) rs two.between three.between
@@ -195,7 +193,7 @@ module _ (rs : List Stored) (workspace : List ℕ) (a b : Space) (s : State) (f 
       behind_few false mid end d st at p above spent =
           let first = rebase_bare m a.number mid spent.next d f.w.lists.log f.w.parent p st at above spent.spent in
           let second = gain_priced m a.number gained spent.next end first.state f.w.lists.log f.w.parent all (touched_alone f.w.lists.own behind) first.stands first.known log_ends (IsSteady-alone all f.w.lists.own behind own_cut behind_cut)
-          (gained_covered user_moment user (map entry_of gained.items) gained_listed) (gained_few user_moment user (map entry_of gained.items) gained_listed) spent.rest in
+          (gained_covered user_moment user (map entry_of gained) gained_listed) (gained_few user_moment user (map entry_of gained) gained_listed) spent.rest in
           beside_then wide (2 + length (marks_at (parts_of mid) a.number)) (5 * alone) mid spent.next end (beside_wider (is_head a.number) wide (2 + length (marks_at (parts_of mid) a.number)) mid spent.next (right_head b.number a.number) first.changes)
           (beside_wider (is_head a.number) wide (5 * alone) spent.next end (right_head b.number a.number) second)
 

@@ -2,8 +2,6 @@
 use Rattle.std.proofs.Common.{◌≡◌, ℕ, ◌+◌, ◌*◌, ◌≤◌, ◌==◌, Bool, true, false, if◌then◌else◌, List, [], ◌∷◌, ◌++◌, map, length, Some, refl, sym, ap, subst, ◌∙◌, arith}
 use Rattle.std.proofs.lemmas.List.{length-map}
 use Rattle.std.specs.List.{All}
-use Rattle.std.specs.declared.alloc.Global.{Global}
-use Rattle.std.specs.declared.vec.Vec.{Vec}
 use Rattle.wm_graph.specs.Parts.{parts_of}
 use Rattle.wm_model.specs.Merged.{gain_edits, keep_edits, replay_edits}
 use Rattle.wm_model.specs.Step.{unlock_edits}
@@ -87,13 +85,13 @@ keep_priced m n k true old new d log above_log parent above_parent st at above s
     }
 
 -- entries that are replayed in another workspace: six for each stretch, and a version
-pub replay_priced : (m n k : ℕ) (own : Vec NewEntry Global) (old new : List Stored) (d : Durable) (log above_log : List Entry) (parent above_parent : ℕ) (all : List Entry) (f : Cell → Bool) → (n == k) ≡ false → Stands (parts_of old) d
-    → IsAt d.spaces n log parent → IsAt d.spaces k above_log above_parent → EndIn above_log all → IsSteady all f → ((c : Cell) → touched (map entry_of own.items) c ≡ true → f c ≡ true) → length (map entry_of own.items) ≤ cut_count all f
+pub replay_priced : (m n k : ℕ) (own : List NewEntry) (old new : List Stored) (d : Durable) (log above_log : List Entry) (parent above_parent : ℕ) (all : List Entry) (f : Cell → Bool) → (n == k) ≡ false → Stands (parts_of old) d
+    → IsAt d.spaces n log parent → IsAt d.spaces k above_log above_parent → EndIn above_log all → IsSteady all f → ((c : Cell) → touched (map entry_of own) c ≡ true → f c ≡ true) → length (map entry_of own) ≤ cut_count all f
     → Spends m old (replay_edits k own) new → Leaves (is_head k) (1 + 6 * cut_count all f) old new (λ e. IsAt e.spaces n log parent × ((v : Workspace) × (workspace_of e.spaces k ≡ Some v)) × KeepsMarks old new)
-replay_priced m n k own old new d log above_log parent above_parent all f other st at above ends steady covered few = by_some (length own.items == 0)
+replay_priced m n k own old new d log above_log parent above_parent all f other st at above ends steady covered few = by_some (length own == 0)
   where
     es : List Entry
-    es = map entry_of own.items
+    es = map entry_of own
 
     by_some : (b : Bool) → Spends m old (if b then [] else edits.Replay k own ∷ []) new → Leaves (is_head k) (1 + 6 * cut_count all f) old new (λ e. IsAt e.spaces n log parent × ((v : Workspace) × (workspace_of e.spaces k ≡ Some v)) × KeepsMarks old new)
     by_some true spends = record {
@@ -109,21 +107,21 @@ replay_priced m n k own old new d log above_log parent above_parent all f other 
         let stands = x.drafts.stands d st in
         let moved : IsAt after.spaces k (above_log ++ es) above_parent = replayed_is k es d above_log above_parent above in
         let price = met_price old d k above_log above_parent after.tables es all f st above (real_behind _ after k above_log es above_parent stands moved) steady ends covered in
-        let many : length es ≡ length own.items = length-map own.items entry_of in
+        let many : length es ≡ length own = length-map own entry_of in
         record {
           state = after;
           stands = subst (λ (ss : List Stored). Stands (parts_of ss) after) (sym (now ∙ x.is)) stands;
           known = (replayed_stays k es d n log parent other at, (moved.now, moved.found), subst (KeepsMarks old) (sym now) x.costs.1);
-          changes = few_more (is_head k) (1 + 4 * length own.items + touch_price (parts_of old) k es) (1 + 6 * cut_count all f) old new (omega (arith, price, few, many)) (subst (ChangesBeside (is_head k) _ old) (sym now) x.costs.0);
+          changes = few_more (is_head k) (1 + 4 * length own + touch_price (parts_of old) k es) (1 + 6 * cut_count all f) old new (omega (arith, price, few, many)) (subst (ChangesBeside (is_head k) _ old) (sym now) x.costs.0);
         }
 
 -- entries that a log gains: five for each stretch
-pub gain_priced : (m n : ℕ) (gained : Vec NewEntry Global) (old new : List Stored) (d : Durable) (log : List Entry) (parent : ℕ) (all : List Entry) (f : Cell → Bool) → Stands (parts_of old) d → IsAt d.spaces n log parent → EndIn log all → IsSteady all f
-    → ((c : Cell) → touched (map entry_of gained.items) c ≡ true → f c ≡ true) → length (map entry_of gained.items) ≤ cut_count all f → Spends m old (gain_edits n gained) new → ChangesBeside (is_head n) (5 * cut_count all f) old new
-gain_priced m n gained old new d log parent all f st at ends steady covered few = by_some (length gained.items == 0)
+pub gain_priced : (m n : ℕ) (gained : List NewEntry) (old new : List Stored) (d : Durable) (log : List Entry) (parent : ℕ) (all : List Entry) (f : Cell → Bool) → Stands (parts_of old) d → IsAt d.spaces n log parent → EndIn log all → IsSteady all f
+    → ((c : Cell) → touched (map entry_of gained) c ≡ true → f c ≡ true) → length (map entry_of gained) ≤ cut_count all f → Spends m old (gain_edits n gained) new → ChangesBeside (is_head n) (5 * cut_count all f) old new
+gain_priced m n gained old new d log parent all f st at ends steady covered few = by_some (length gained == 0)
   where
     es : List Entry
-    es = map entry_of gained.items
+    es = map entry_of gained
 
     by_some : (b : Bool) → Spends m old (if b then [] else edits.Gain n gained ∷ []) new → ChangesBeside (is_head n) (5 * cut_count all f) old new
     by_some true spends = few_more (is_head n) 0 (5 * cut_count all f) old new (omega arith) (beside_same (is_head n) old new spends)
@@ -132,8 +130,8 @@ gain_priced m n gained old new d log parent all f st at ends steady covered few 
         let after : Durable = drafted_by x.work m (edits.Gain n gained ∷ []) d in
         let moved : IsAt after.spaces n (log ++ es) parent = gained_is n es d log parent at in
         let price = met_price old d n log parent after.tables es all f st at (real_behind _ after n log es parent (x.drafts.stands d st) moved) steady ends covered in
-        let many : length es ≡ length gained.items = length-map gained.items entry_of in
-        few_more (is_head n) (3 * length gained.items + touch_price (parts_of old) n es) (5 * cut_count all f) old new (omega (arith, price, few, many)) (subst (ChangesBeside (is_head n) _ old) (sym spends.rest) x.costs)
+        let many : length es ≡ length gained = length-map gained entry_of in
+        few_more (is_head n) (3 * length gained + touch_price (parts_of old) n es) (5 * cut_count all f) old new (omega (arith, price, few, many)) (subst (ChangesBeside (is_head n) _ old) (sym spends.rest) x.costs)
 
 -- a rebase that keeps what is own: a version, a turn, one piece for each stretch, and the marks that go
 pub rebase_priced : (m n : ℕ) (old new : List Stored) (d : Durable) (w p : Workspace) (all : List Entry) → Stands (parts_of old) d → workspace_of d.spaces n ≡ Some w → workspace_of d.spaces w.parent ≡ Some p → has_cuts all w.lists.own ≡ true

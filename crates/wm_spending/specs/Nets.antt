@@ -1,7 +1,5 @@
 -- Plans that refresh a workspace, or merge it and let it be.
 use Rattle.std.specs.Prelude.{ℕ, ◌≡◌, Bool, true, false, List, [], map}
-use Rattle.std.specs.declared.alloc.Global.{Global}
-use Rattle.std.specs.declared.vec.Vec.{Vec}
 use Rattle.wm_graph.specs.Parts.{parts_of}
 use Rattle.wm_spec.specs.declared.record.space.Space.{Space}
 use Rattle.wm_spec.specs.declared.record.stored.Stored.{Stored}
@@ -30,8 +28,8 @@ pub record AreRefresh (rs : List Stored) (workspace : List ℕ) (edits : List Ed
   pub family : NamesFamily rs workspace space parent
   pub moment : ℕ
   pub user : List ℕ
-  pub gained : Vec NewEntry Global
-  pub listed : IsHeldListing (parts_of rs) moment user (gained_held (parts_of rs) space parent) (map entry_of gained.items)
+  pub gained : List NewEntry
+  pub listed : IsHeldListing (parts_of rs) moment user (gained_held (parts_of rs) space parent) (map entry_of gained)
   pub are : edits ≡ refresh_edits space.number gained
 
 -- they merge it into its parent, which has what is its own then, and it stays without its locks
@@ -44,10 +42,10 @@ pub record AreMerge (rs : List Stored) (workspace : List ℕ) (edits : List Edit
   pub asked : Asked
   pub stays : asked.removes ≡ false
   pub even : Bool
-  pub own : Vec NewEntry Global
-  pub own_listed : IsHeldListing (parts_of rs) moment user (own_held (parts_of rs) space) (map entry_of own.items)
-  pub gained : Vec NewEntry Global
-  pub gained_listed : IsHeldListing (parts_of rs) moment user (gained_held (parts_of rs) space parent) (map entry_of gained.items)
+  pub own : List NewEntry
+  pub own_listed : IsHeldListing (parts_of rs) moment user (own_held (parts_of rs) space) (map entry_of own)
+  pub gained : List NewEntry
+  pub gained_listed : IsHeldListing (parts_of rs) moment user (gained_held (parts_of rs) space parent) (map entry_of gained)
   pub are : edits ≡ merge_edits asked even space.number parent.number own gained (makings_of space.number (parts_of rs).locks)
 
 -- there are none, or they do what is asked for

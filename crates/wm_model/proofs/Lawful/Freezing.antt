@@ -1,8 +1,5 @@
 -- FreezeWorkspace and UnfreezeWorkspace leave a lawful state.
-use Rattle.std.proofs.Common.{◌≡◌, ℕ, Bool, true, false, cond, List, [], ◌∷◌, unwrap_or, Option, Some, None, refl, sym, ap, ◌∙◌, subst, append-nil, ◌==◌}
-use Rattle.wm_calls.specs.Arguments.{text_given}
-use Rattle.wm_grammar.specs.declared.procedure.Procedure.TheVariants as procedures
-use Rattle.wm_grammar.specs.declared.procedure.Parameter.TheVariants as parameters
+use Rattle.std.proofs.Common.{◌≡◌, ℕ, Bool, true, false, cond, List, [], ◌∷◌, Option, Some, None, refl, sym, ap, ◌∙◌, subst, append-nil, ◌==◌}
 use Rattle.wm_guard.specs.Access.{Hold, Free, NoAccess, ReadOnly, OneWriter, OneSession, WmOnly}
 use Rattle.wm_outline.specs.Outline.{SpaceOutline, outline}
 use Rattle.wm_print.specs.Texts.{Fine}
@@ -15,9 +12,11 @@ use Rattle.wm_state.proofs.Changing.{differ-changed}
 use Rattle.wm_syntax.specs.declared.statement.Arg.{Arg}
 use Rattle.wm_model.specs.Lawful.{Holds, IsSound, LawfulMark, LawfulSpace, LawfulState}
 use Rattle.wm_model.specs.Seating.{Stay, planned}
-use Rattle.wm_model.specs.Step.{State, for_named, freeze_plan, freezing, freezing_edits, freezing_seating, hold_asked, hold_on, no_workspace, run, space_named, thawing, unfreeze_plan}
+use Rattle.wm_model.specs.Step.Sessions as settings
+use Rattle.wm_model.specs.Step.{State, freeze_plan, freezing, freezing_edits, freezing_seating, hold_on, run, thawing, unfreeze_plan}
 use Rattle.wm_model.proofs.Lawful.Entries.{all_swapped}
-use Rattle.wm_model.proofs.Lawful.Leaves.{IsLawful, Leaves, leaves_held, leaves_run, leaves_thawed}
+use Rattle.wm_model.proofs.Lawful.Leaves.{IsLawful, Keeps, Leaves, leaves_run, leaves_set, leaves_thawed}
+use Rattle.wm_model.proofs.Lawful.Plans.{keeping, planned_edit}
 use Rattle.wm_model.proofs.Lawful.Spaces.{Goes, changed, seats_kept, spaces_kept}
 
 -- ---- a workspace that is frozen, or is free again
@@ -49,6 +48,7 @@ space_frozen mode writer w l = record {
   latest = l.latest;
   marks = λ P k found. mark k (l.marks P k found);
   rises = l.rises;
+  made = l.made;
   first = l.first;
   last = l.last;
   live = l.live;
@@ -93,31 +93,24 @@ lawful_frozen n mode writer s l = by_space (workspace_of s.durable.spaces n) ref
 
 -- ---- plans
 
--- the one edit of a plan, with its work
 planned_frozen : (n : ℕ) (mode : FreezeMode) (writer : List ℕ) (s : State) → LawfulState s → LawfulState (planned s.moment s.moment (edits.Freeze n mode writer ∷ []) Stay s)
-planned_frozen n mode writer s l =
-    let k = lawful_frozen n mode writer s l in
-    record { durable = record { spaces = k.durable.spaces; entries = record { tells = k.durable.entries.tells; each = k.durable.entries.each; staged = k.durable.entries.staged } }; seats = k.seats }
+planned_frozen n mode writer s l = planned_edit (edits.Freeze n mode writer) s (lawful_frozen n mode writer s l)
 
 -- ---- FreezeWorkspace
 
 planned_freezing : (hold : Hold) (n : ℕ) (s : State) → LawfulState s → LawfulState (planned s.moment s.moment (freezing_edits hold n) (freezing_seating hold n) s)
-planned_freezing (OneSession session) n s l = (leaves_held session n s Fine l).lawful
+planned_freezing (OneSession session) n s l = (leaves_set session (settings.Freeze n) s Fine l (λ x old. old) tt).lawful
 planned_freezing Free n s l = planned_frozen n _ _ s l
 planned_freezing NoAccess n s l = planned_frozen n _ _ s l
 planned_freezing ReadOnly n s l = planned_frozen n _ _ s l
 planned_freezing (OneWriter user) n s l = planned_frozen n _ _ s l
 planned_freezing WmOnly n s l = planned_frozen n _ _ s l
 
-pub leaves_freeze : (session : Session) (args : List Arg) (s : State) → LawfulState s → Leaves (run (freeze_plan session args (outline s)) s)
-leaves_freeze session args s l = leaves_run (freeze_plan session args (outline s)) s l (λ clear. by_space (space_named name (outline s)))
-  where
-    name : List ℕ
-    name = unwrap_or (text_given procedures.FreezeWorkspace args parameters.Workspace) []
+keeps_freezing : (hold : Hold) (x : SpaceOutline) (s : State) → LawfulState s → Keeps s (freezing hold (outline s) x)
+keeps_freezing hold x s l = record { lawful = λ clear. planned_freezing hold x.number s l }
 
-    by_space : (o : Option SpaceOutline) → IsLawful s (for_named (no_workspace name) (freezing (hold_asked session args) (outline s)) o)
-    by_space None = l
-    by_space (Some x) = planned_freezing (hold_asked session args) x.number s l
+pub leaves_freeze : (session : Session) (args : List Arg) (s : State) → LawfulState s → Leaves (run (freeze_plan session args (outline s)) s)
+leaves_freeze session args s l = leaves_run (freeze_plan session args (outline s)) s l (search (keeping, keeps_freezing) depth 10)
 
 -- ---- UnfreezeWorkspace
 
@@ -132,12 +125,8 @@ planned_thawing x s l = by_hold (hold_on s.sessions x) refl
     by_hold (OneSession session) is = rw is ((leaves_thawed x.number s Fine l).lawful)
     by_hold WmOnly is = rw is (planned_frozen x.number _ _ s l)
 
-pub leaves_unfreeze : (args : List Arg) (s : State) → LawfulState s → Leaves (run (unfreeze_plan args (outline s)) s)
-leaves_unfreeze args s l = leaves_run (unfreeze_plan args (outline s)) s l (λ clear. by_space (space_named name (outline s)))
-  where
-    name : List ℕ
-    name = unwrap_or (text_given procedures.UnfreezeWorkspace args parameters.Workspace) []
+keeps_thawing : (x : SpaceOutline) (s : State) → LawfulState s → Keeps s (thawing (outline s) x)
+keeps_thawing x s l = record { lawful = λ clear. planned_thawing x s l }
 
-    by_space : (o : Option SpaceOutline) → IsLawful s (for_named (no_workspace name) (thawing (outline s)) o)
-    by_space None = l
-    by_space (Some x) = planned_thawing x s l
+pub leaves_unfreeze : (args : List Arg) (s : State) → LawfulState s → Leaves (run (unfreeze_plan args (outline s)) s)
+leaves_unfreeze args s l = leaves_run (unfreeze_plan args (outline s)) s l (search (keeping, keeps_thawing) depth 10)

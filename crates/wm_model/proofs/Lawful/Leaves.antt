@@ -1,9 +1,8 @@
 -- What a line does step by step leaves a lawful state: one law for each way in which Step puts it together, and one for each change.
-use Rattle.std.proofs.Common.{◌≡◌, ℕ, ◌+◌, Bool, true, false, not, nat_lt, if◌then◌else◌, List, [], ◌∷◌, ◌++◌, map, Option, Some, None, is_some, refl, ◌∙◌, arith}
+use Rattle.std.proofs.Common.{◌≡◌, ℕ, ◌+◌, Bool, true, false, nat_lt, if◌then◌else◌, List, [], ◌∷◌, ◌++◌, map, Option, Some, None, is_some, refl, ◌∙◌, arith}
 use Rattle.std.specs.List.{filter}
 use Rattle.std.specs.Str.{bytes_eq}
 use Rattle.wm_base.specs.declared.refusal.Refusal.{Refusal}
-use Rattle.wm_base.specs.Period.{Span}
 use Rattle.wm_print.specs.Texts.{Answer}
 use Rattle.wm_spec.specs.Lists.{Entry}
 use Rattle.wm_spec.specs.declared.record.table.Table.{Table}
@@ -12,9 +11,9 @@ use Rattle.wm_state.specs.State.{Durable, Savepoint, Session, State, Workspace, 
 use Rattle.wm_state.proofs.Changing.{differ-changed}
 use Rattle.wm_model.specs.Lawful.{Each, IsPlace, IsSound, Lawful, LawfulState, Seats, staged_in}
 use Rattle.wm_model.specs.Seating.{planned, thawed}
-use Rattle.wm_model.specs.Step.{Plan, Setting, altered, at_latest, barred, born, child_of, comes, counter_limit, done_so, durably, durably_by, given, is_before, is_name, latest, least, line_work, newly_named, no_table, no_workspace, place_behind, refused_or, run, saved, saved_at, unless, unless_empty_period, unless_latest, unless_mistyped, with_named, with_setting, with_table, written_all}
-use Rattle.wm_model.specs.Step.Sessions as settings
+use Rattle.wm_model.specs.Step.{Plan, Setting, altered, at_latest, barred, born, child_of, comes, counter_limit, done_so, durably, durably_by, given, is_before, least, line_work, no_table, no_workspace, place_behind, refused_or, run, saved, saved_at, unless, unless_empty_period, unless_mistyped, with_named, with_setting, with_table, written_all}
 use Rattle.wm_model.proofs.Lawful.Entries.{Written, all_more, all_saved, entries_more, mark_holds}
+use Rattle.wm_model.proofs.Lawful.Firsts.{NoFaults, none_told}
 use Rattle.wm_model.proofs.Lawful.Saving.{child_lawful, fits, space_appended, space_saved}
 use Rattle.wm_model.proofs.Lawful.Staging.{staged_altered, staged_thawed, staged_with}
 use Rattle.wm_model.proofs.Lawful.Spaces.{at_its_number, changed, child_based, goes_appended, goes_saved, none_at, numbered, seats_kept, seats_more, spaces_kept, spaces_more, under}
@@ -76,12 +75,6 @@ pub leaves_given : (text fault : Option (List ℕ)) (s : State) (act : List ℕ 
 leaves_given None fault s act l a = stays s _ l
 leaves_given (Some name) fault s act l a = a name
 
-pub leaves_newly_named : (name : List ℕ) (taken : Bool) (fault : Option (List ℕ)) (s : State) (done : State × Answer) → LawfulState s → Leaves done → Leaves (newly_named name taken fault s done)
-leaves_newly_named name taken fault s done l d = leaves_if (not (is_name name)) _ _ (stays s _ l) (leaves_if taken _ _ (stays s _ l) (leaves_unless_mistyped fault s done l d))
-
-pub leaves_unless_latest : (name : List ℕ) (s : State) (done : State × Answer) → LawfulState s → Leaves done → Leaves (unless_latest name s done)
-leaves_unless_latest name s done l d = leaves_if (bytes_eq name latest) _ _ (stays s _ l) d
-
 -- a line that is refused for this too
 pub leaves_barred : (fault : Option Refusal) (s : State) (done : State × Answer) → LawfulState s → Leaves done → Leaves (barred fault s done)
 leaves_barred None s done l d = d
@@ -91,16 +84,19 @@ leaves_barred (Some refusal) s done l d = leaves_if (is_before done.1 refusal) _
 abbrev pub IsLawful : State → Plan → Type 0
 IsLawful s p = LawfulState (planned s.moment s.moment p.edits p.seating s)
 
--- a plan: what it does is lawful where nothing refuses it
-pub leaves_run : (p : Plan) (s : State) → LawfulState s → (least p.faults ≡ None → IsLawful s p) → Leaves (run p s)
-leaves_run p s l done = by_fault (least p.faults) refl
+-- which is lawful where nothing is a fault
+pub record Keeps (s : State) (p : Plan) : Type 0 where
+  pub lawful : NoFaults p.faults → IsLawful s p
+
+pub leaves_run : (p : Plan) (s : State) → LawfulState s → Keeps s p → Leaves (run p s)
+leaves_run p s l keeps = by_fault (least p.faults) refl
   where
     by_fault : (fault : Option Refusal) → least p.faults ≡ fault → Leaves (comes (refused_or fault (done_so p)) s)
-    by_fault None clear = record { lawful = done clear }
+    by_fault None clear = record { lawful = keeps.lawful (none_told p.faults clear) }
     by_fault (Some refusal) told = record { lawful = l }
 
 -- one rule for each combinator
-pub ruleset leaving = (stays, leaves_if, leaves_unless, leaves_unless_mistyped, leaves_durably, leaves_with_table, leaves_with_named, leaves_at_latest, leaves_unless_empty_period, leaves_given, leaves_newly_named, leaves_unless_latest, at_its_number)
+pub ruleset leaving = (stays, leaves_if, leaves_unless, leaves_unless_mistyped, leaves_durably, leaves_with_table, leaves_with_named, leaves_at_latest, leaves_unless_empty_period, leaves_given, at_its_number)
 
 -- ---- changes of what is kept
 
@@ -127,7 +123,7 @@ lawful_saved m w stand name implicit icp k d l found is =
     let c = changed d.spaces w.number act w (λ _. refl) found (goes_saved (place_behind w stand) icp k w) in
     record {
       spaces = spaces_kept d.spaces (with_space w.number act d.spaces) w.number w (act w) l.spaces c (differ-changed w.number act (λ _. refl) d.spaces ∙ l.spaces.once)
-          (space_saved w (place_behind w stand) icp k lawful (fits m d.spaces w stand name implicit icp k lawful is));
+          (space_saved w (place_behind w stand) icp k lawful (fits m d.spaces w stand name implicit icp k lawful found is));
       entries = record {
         tells = l.entries.tells;
         each = all_saved (IsSound l.entries.tells d.next_stamp) d.spaces (with_space w.number act d.spaces) w.number (place_behind w stand) icp w k l.entries.each c (mark_of m w stand name implicit k d l found is);
@@ -148,7 +144,7 @@ lawful_born m w stand name implicit_name k d l found is =
     let all = all_saved P d.spaces (with_space w.number act d.spaces) w.number (place_behind w stand) (w.next_implicit + 1) w k l.entries.each c mark in
     let child = child_of m d.spaces w k name in
     let older = under d.spaces w.number w found in
-    let fit = fits m d.spaces w stand implicit_name true (w.next_implicit + 1) k lawful is in
+    let fit = fits m d.spaces w stand implicit_name true (w.next_implicit + 1) k lawful found is in
     record {
       spaces = spaces_more (with_space w.number act d.spaces) child t.spaces (c.swap.others (next_space d.spaces) (λ e. absurd (omega (arith, older, e))) ∙ none_at d.spaces) (child_lawful m d.spaces w k name older)
           (child_based m d.spaces (with_space w.number act d.spaces) w (act w) k name c.swap.now older fit.mark);
@@ -187,10 +183,6 @@ leaves_born w stand name implicit_name k s answer l found is = record {
         (seats_saved (place_behind w stand) (w.next_implicit + 1) w k s l found);
   };
 }
-
--- tables are in no law
-pub leaves_tables : (s : State) (tables : List Table) (answer : Answer) → LawfulState s → Leaves (record s { durable = record s.durable { tables = tables } }, answer)
-leaves_tables s tables answer l = record { lawful = record { durable = record { spaces = l.durable.spaces; entries = l.durable.entries }; seats = l.seats } }
 
 -- ---- sessions
 
@@ -243,22 +235,6 @@ pub leaves_set : (name : List ℕ) (setting : Setting) (s : State) (answer : Ans
 leaves_set name setting s answer l to new =
     leaves_seated s _ answer l (seats_altered s.durable.spaces name setting s.sessions to l.seats)
     (staged_altered (IsSound l.durable.entries.tells s.durable.next_stamp) name setting s.sessions new l.durable.entries.staged)
-
--- a session goes to a place
-pub leaves_gone : (name : List ℕ) (n : ℕ) (stand : state.Stand) (s : State) (answer : Answer) → LawfulState s → IsPlace s.durable.spaces n stand → Leaves (record s { sessions = altered name (settings.Stand n stand) s.sessions }, answer)
-leaves_gone name n stand s answer l p = leaves_set name (settings.Stand n stand) s answer l (λ x old. p) tt
-
--- a period is set, and nobody goes
-pub leaves_period : (name : List ℕ) (period : Option Span) (s : State) (answer : Answer) → LawfulState s → Leaves (record s { sessions = altered name (settings.Period period) s.sessions }, answer)
-leaves_period name period s answer l = leaves_set name (settings.Period period) s answer l (λ x old. old) tt
-
--- so with the workspace of conflicts
-pub leaves_conflict : (name workspace : List ℕ) (s : State) (answer : Answer) → LawfulState s → Leaves (record s { sessions = altered name (settings.Conflict workspace) s.sessions }, answer)
-leaves_conflict name workspace s answer l = leaves_set name (settings.Conflict workspace) s answer l (λ x old. old) tt
-
--- and with a workspace that a session freezes for itself
-pub leaves_held : (name : List ℕ) (space : ℕ) (s : State) (answer : Answer) → LawfulState s → Leaves (record s { sessions = altered name (settings.Freeze space) s.sessions }, answer)
-leaves_held name space s answer l = leaves_set name (settings.Freeze space) s answer l (λ x old. old) tt
 
 -- no session holds a workspace any more, and nobody goes
 seats_thawed : (ws : List Workspace) (n : ℕ) (xs : List Session) → Seats ws xs → Seats ws (map (thawed n) xs)

@@ -1,5 +1,5 @@
 -- What is found in a list with one more.
-use Rattle.std.proofs.Common.{◌≡◌, ℕ, zero, suc, Bool, true, false, ◌&&◌, cond, if◌then◌else◌, List, [], ◌∷◌, ◌++◌, slice_get, Some, None, refl, sym, ap, ◌∙◌, ◌⊎◌, inl, inr}
+use Rattle.std.proofs.Common.{◌≡◌, ℕ, zero, suc, Bool, true, false, ◌&&◌, cond, if◌then◌else◌, List, [], ◌∷◌, ◌++◌, map, slice_get, Some, None, option_map, refl, sym, ap, ◌∙◌, ◌⊎◌, inl, inr}
 use Rattle.std.proofs.lemmas.Option.{same_Some}
 use Rattle.std.proofs.lemmas.Bool.{true≢false}
 use Rattle.std.specs.List.{find}
@@ -28,6 +28,15 @@ found_both {A = A} Q P (y ∷ ys) x found passes = by_tests (Q y) (P y) refl fou
     by_tests true false is h rest = rest h passes
     by_tests false true is h rest = absurd (true≢false (sym passes ∙ ap Q (sym (same_Some y x h)) ∙ is))
     by_tests false false is h rest = rest h passes
+
+-- what is found among what is told of elements is what is told of the one that is found
+pub found_mapped : {A B : Type 0} (f : A → B) (P : B → Bool) (xs : List A) → option_map f (find (λ x. P (f x)) xs) ≡ find P (map f xs)
+found_mapped f P [] = refl
+found_mapped {A = A} f P (x ∷ xs) = by_test (P (f x)) (found_mapped f P xs)
+  where
+    by_test : (b : Bool) → option_map f (find (λ y. P (f y)) xs) ≡ find P (map f xs) → option_map f (cond b (Some x) (find (λ y. P (f y)) xs)) ≡ cond b (Some (f x)) (find P (map f xs))
+    by_test true rest = refl
+    by_test false rest = rest
 
 -- the one turn of a workspace that is born
 pub one_turn : (t u : Turn) (number : ℕ) → slice_get (t ∷ []) number ≡ Some u → u ≡ t

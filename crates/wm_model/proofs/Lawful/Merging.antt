@@ -12,7 +12,7 @@ use Rattle.wm_state.specs.Editing.{implicit_name, kept_in, saved, unlocked_of, w
 use Rattle.wm_state.specs.State.{Durable, Savepoint, Session, Stand, Latest, At, Dated, Workspace, content, fresh_live, next_making, with_entries, with_savepoint, with_space, workspace_of}
 use Rattle.wm_state.proofs.Changing.{differ-changed, workspace_of-changed}
 use Rattle.wm_model.specs.Lawful.{Each, IsAt, IsSound, LawfulSpaces, LawfulState, Seats}
-use Rattle.wm_model.specs.Step.{Answer, Asked, State, first_fault, gained_of, has_child, has_locks, is_child, is_even, is_quiet, leaving_faults, longer_log, merge, merge_workspace, merged, merged_with, merging_faults, no_parent, parent_in, pending, refresh, refresh_workspace, refreshed, refreshing_faults, removed, session_inside, stands_in, unless}
+use Rattle.wm_model.specs.Step.{Answer, Asked, State, first_fault, gained_of, has_child, has_locks, is_child, is_even, is_inside, is_quiet, leaving_faults, longer_log, merge, merge_workspace, merged, merged_with, merging_faults, no_parent, parent_in, pending, refresh, refresh_workspace, refreshed, refreshing_faults, session_inside, unless}
 use Rattle.wm_model.proofs.Lawful.Entries.{AllHold, all_swapped, holds_appended}
 use Rattle.wm_model.proofs.Lawful.Firsts.{no_faults, none_inside, none_named, none_refused}
 use Rattle.wm_model.proofs.Lawful.Leaves.{Leaves, leaves_durably, leaves_if, leaves_saved, leaves_unless, leaves_with_named, stays}
@@ -20,7 +20,7 @@ use Rattle.wm_model.proofs.Lawful.Nets.{each_drop, gained_sound, net_sound, soun
 use Rattle.wm_model.proofs.Lawful.Rebasing.{base_alike, holds_rebased, over_parent, rebased_with, spaces_rebased}
 use Rattle.wm_model.proofs.Lawful.Saving.{newest, space_appended}
 use Rattle.wm_model.proofs.Lawful.Spaces.{at_its_number, changed, goes_appended, number_is, seats_kept, seats_swapped, spaces_kept, swapped}
-use Rattle.wm_model.proofs.Lawful.Undoing.{NoChild, leaves_faultless, leaves_left}
+use Rattle.wm_model.proofs.Lawful.Undoing.{NoChild, leaves_faultless, leaves_left, removed}
 
 -- ---- workspaces of which one stands on another
 
@@ -191,12 +191,12 @@ none_merged own es p w d none =
 -- no workspace stands on the one that goes, and no session in it
 record Alone (s : State) (w : Workspace) : Type 0 where
   none : NoChild s.durable.spaces w
-  away : list_any (stands_in w) s.sessions ≡ false
+  away : list_any (is_inside w) s.sessions ≡ false
 
 alone_with : (removes : Bool) (s : State) (w : Workspace) → first_fault (leaving_faults removes s w) ≡ None → removes ≡ true → Alone s w
 alone_with true s w none removes = let h = no_faults (leaving_faults true s w) none in record {
   none = none_named (is_child w) s (none_refused (has_child w.name) (λ _. refl) _ h.1.0);
-  away = none_inside (stands_in w) s.sessions (none_refused (session_inside w.name) (λ _. refl) _ h.0);
+  away = none_inside (is_inside w) s.sessions (none_refused (session_inside w.name) (λ _. refl) _ h.0);
 }
 alone_with false s w none removes = absurd (true≢false (sym removes))
 

@@ -1,12 +1,11 @@
 -- In a lawful state the workspace that a session stands in is there, and so is the savepoint.
-use Rattle.std.proofs.Common.{◌≡◌, ℕ, Bool, true, false, List, [], ◌∷◌, Option, Some, None, is_some, option_map, unwrap_or, refl, sym, ap, ◌∙◌, subst, if◌then◌else◌}
-use Rattle.std.proofs.lemmas.Bool.{true≢false}
+use Rattle.std.proofs.Common.{◌≡◌, ℕ, Bool, true, false, List, [], ◌∷◌, Option, Some, unwrap_or, sym, ap, ◌∙◌, subst, if◌then◌else◌}
 use Rattle.std.proofs.lemmas.Option.{same_Some}
 use Rattle.std.specs.List.{find}
 use Rattle.std.specs.Str.{bytes_eq}
-use Rattle.wm_model.specs.Lawful.{IsAt, IsPlace, LawfulState, Seats}
-use Rattle.wm_model.specs.Step.{home_of, is_dated, saved_at, session_of}
-use Rattle.wm_state.specs.State.{Savepoint, Session, Stand, Latest, At, Dated, State, Workspace, fresh_live, savepoint_made, workspace_of}
+use Rattle.wm_model.specs.Lawful.{IsPlace, LawfulState, Seats}
+use Rattle.wm_model.specs.Step.{home_of, session_of}
+use Rattle.wm_state.specs.State.{Session, State, Workspace, fresh_live, workspace_of}
 
 seat_found : (ws : List Workspace) (P : Session → Bool) (xs : List Session) (x : Session) → Seats ws xs → find P xs ≡ Some x → IsPlace ws x.space x.stand
 seat_found ws P [] x s found = absurd (cc)
@@ -23,13 +22,3 @@ place_of s name session l found = seat_found s.durable.spaces (λ (x : Session).
 -- its workspace is there
 pub home_found : (s : State) (session : Session) → IsPlace s.durable.spaces session.space session.stand → workspace_of s.durable.spaces session.space ≡ Some (home_of s session)
 home_found s session p = p.is ∙ ap (λ (o : Option Workspace). Some (unwrap_or o fresh_live)) (sym p.is)
-
--- and so is what a savepoint is made of where one stands, but on a date
-pub saved_there : (m : ℕ) (spaces : List Workspace) (w : Workspace) (stand : Stand) (name : List ℕ) (implicit : Bool) → IsAt w stand → is_dated stand ≡ false → is_some (saved_at m spaces w stand name implicit) ≡ true
-saved_there m spaces w Latest name implicit there plain = refl
-saved_there m spaces w (Dated date) name implicit there plain = absurd (true≢false plain)
-saved_there m spaces w (At making) name implicit there plain = mapped (savepoint_made making w.savepoints) _ there
-  where
-    mapped : (o : Option Savepoint) (f : Savepoint → Savepoint) → is_some o ≡ true → is_some (option_map f o) ≡ true
-    mapped None f h = h
-    mapped (Some k) f h = refl

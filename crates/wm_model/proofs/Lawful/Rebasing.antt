@@ -82,6 +82,7 @@ space_rebased emptied p w es l above alike =
       latest = alike;
       marks = λ P k found. mark_rebased emptied p w es k l above (l.marks P k found);
       rises = l.rises;
+      made = l.made;
       first = λ t found. l.first t (turn_before w.turns (turn_on p) 0 t (omega (arith, turns)) found);
       last = λ t found.
           let same = turn_behind w.turns (turn_on p) (w.rebases + 1) t (sym turns) found in

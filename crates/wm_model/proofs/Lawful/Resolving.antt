@@ -2,6 +2,8 @@
 use Rattle.std.proofs.Common.{◌≡◌, ℕ, ◌+◌, ◌-◌, Bool, List, [], ◌∷◌, length, map, unwrap_or, Option, Some, None, refl, ◌∙◌}
 use Rattle.std.specs.List.{find, flat_map}
 use Rattle.wm_syntax.specs.Trees.{Cond}
+use Rattle.wm_syntax.specs.declared.statement.Arg.{Arg}
+use Rattle.wm_base.specs.declared.refusal.Refusal.{Refusal}
 use Rattle.wm_decided.specs.Deciding.{decisions_in}
 use Rattle.wm_decided.specs.Keys.{meets_key}
 use Rattle.wm_decided.specs.Netted.{entries_decided, marks_of}
@@ -14,27 +16,29 @@ use Rattle.wm_spec.specs.declared.record.table.Table.{Table}
 use Rattle.wm_state.specs.State.{Decision, Savepoint, Session, Workspace, content, fresh_live, with_entries, with_space, workspace_of}
 use Rattle.wm_state.proofs.Changing.{differ-changed}
 use Rattle.wm_model.specs.Lawful.{Each, Holds, IsSound, LawfulMark, LawfulSpace, LawfulState, staged_of}
-use Rattle.wm_model.specs.Step.{Answer, State, begin_resolve, cells_of, claim_of, commit, commit_resolve, decide, decide_on, decisions_of, lock_fault, parent_in, resolve_conflicts, resolved, resolving_fault, rollback_resolve, set_of, sides, unresolved_fault}
+use Rattle.wm_model.specs.Step.{Answer, State, begin_resolve_plan, cells_of, claim_of, commit, commit_resolve, decide, decide_on, decisions_of, lock_fault, parent_in, resolve_conflicts, resolved, rollback_resolve_plan, run, set_of, setting, sides, unresolved_fault}
 use Rattle.wm_model.specs.Step.Sessions as settings
 use Rattle.wm_model.proofs.Lawful.Deciding.{decisions_sound, entries_sound}
 use Rattle.wm_model.proofs.Lawful.Entries.{all_swapped, each_append, holds_appended}
-use Rattle.wm_model.proofs.Lawful.Leaves.{AreSound, Leaves, leaves_durably, leaves_if, leaves_set, leaves_unless, leaves_with_named, leaving, stays}
+use Rattle.wm_model.proofs.Lawful.Leaves.{AreSound, Keeps, Leaves, leaves_durably, leaves_run, leaves_set, leaves_unless, leaves_with_named, leaving, stays}
+use Rattle.wm_model.proofs.Lawful.Plans.{keeping, keeps_setting}
 use Rattle.wm_model.proofs.Lawful.Saving.{space_appended}
 use Rattle.wm_model.proofs.Lawful.Spaces.{Goes, changed, seats_kept, spaces_kept}
 use Rattle.wm_model.proofs.Lawful.Staging.{staged_found}
 
 -- ---- a resolve is opened and closed
 
-pub leaves_begin_resolve : (session : Session) (name : List ℕ) (s : State) → LawfulState s → Leaves (begin_resolve session name s)
-leaves_begin_resolve session name s l =
-    leaves_with_named s name _ l
-    (λ w found. leaves_if _ _ _ (stays s _ l) (leaves_unless (resolving_fault s w) s _ l (leaves_set session.name (settings.Begin w.number) s Fine l (λ x old. old) tt)))
+keeps_begun : (faults : List (Option Refusal)) (session : Session) (n : ℕ) (s : State) → LawfulState s → Keeps s (setting faults session (settings.Begin n))
+keeps_begun faults session n s l = keeps_setting faults session (settings.Begin n) s l (λ x old. old) tt
 
-leaves_ended : (session : Session) (s : State) → LawfulState s → Leaves (set_of session settings.End s, Fine)
-leaves_ended session s l = leaves_set session.name settings.End s Fine l (λ x old. old) tt
+pub leaves_begin_resolve : (session : Session) (args : List Arg) (s : State) → LawfulState s → Leaves (run (begin_resolve_plan session args (outline s)) s)
+leaves_begin_resolve session args s l = leaves_run (begin_resolve_plan session args (outline s)) s l (search (keeping, keeps_begun) depth 10)
 
-pub leaves_rollback_resolve : (session : Session) (name : List ℕ) (s : State) → LawfulState s → Leaves (rollback_resolve session name s)
-leaves_rollback_resolve session name s l = leaves_with_named s name _ l (λ w found. leaves_unless (unresolved_fault session w) s _ l (leaves_ended session s l))
+keeps_ended : (faults : List (Option Refusal)) (session : Session) (s : State) → LawfulState s → Keeps s (setting faults session settings.End)
+keeps_ended faults session s l = keeps_setting faults session settings.End s l (λ x old. old) tt
+
+pub leaves_rollback_resolve : (session : Session) (args : List Arg) (s : State) → LawfulState s → Leaves (run (rollback_resolve_plan session args (outline s)) s)
+leaves_rollback_resolve session args s l = leaves_run (rollback_resolve_plan session args (outline s)) s l (search (keeping, keeps_ended) depth 10)
 
 -- ---- decisions
 
@@ -62,11 +66,15 @@ leaves_resolve_conflicts session workspace name condition keep fault empty s l =
 
 -- ---- what was decided
 
+leaves_ended : (session : Session) (s : State) → LawfulState s → Leaves (set_of session settings.End s, Fine)
+leaves_ended session s l = leaves_set session.name settings.End s Fine l (λ x old. old) tt
+
 space_resolved : (es : List Entry) (ms : List Settled) (w : Workspace) → LawfulSpace w → LawfulSpace (resolved es ms w)
 space_resolved es ms w l = let v = space_appended w es l in record {
   latest = v.latest;
   marks = λ P k found. mark k (v.marks P k found);
   rises = v.rises;
+  made = v.made;
   first = v.first;
   last = v.last;
   live = v.live;

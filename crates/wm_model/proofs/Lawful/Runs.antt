@@ -25,6 +25,7 @@ fresh_lawful = record {
   latest = record { same = λ c. refl };
   marks = λ P k found. absurd (cc);
   rises = λ P Q a b found other. absurd (cc);
+  made = λ P k found. absurd (cc);
   first = λ t found. absurd (cc);
   last = λ t found. absurd (cc);
   live = λ none. refl;

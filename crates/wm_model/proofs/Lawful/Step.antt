@@ -1,18 +1,14 @@
 -- Each line leaves a lawful state.
-use Rattle.std.proofs.Common.{◌≡◌, ℕ, ◌+◌, ◌==◌, Bool, true, false, not, nat_le, if◌then◌else◌, List, [], ◌∷◌, ◌++◌, length, map, unwrap_or, Option, Some, None, is_some, option_map, Result, Ok, Err, refl, sym, ap, ◌∙◌}
-use Rattle.std.proofs.lemmas.Bool.{eq-eqb, and_from, true≢false}
-use Rattle.std.proofs.lemmas.Option.{same_Some}
-use Rattle.std.specs.List.{find, list_all}
+use Rattle.std.proofs.Common.{◌≡◌, ℕ, ◌+◌, Bool, true, false, not, nat_le, if◌then◌else◌, List, [], ◌∷◌, length, map, Option, Some, None, Result, Ok, Err, refl}
+use Rattle.std.proofs.lemmas.Bool.{and_from}
+use Rattle.std.specs.List.{list_all}
 use Rattle.std.specs.Str.{bytes_eq, is_utf8}
 use Rattle.wm_base.specs.Period.{Span}
 use Rattle.wm_syntax.specs.Trees.{Cond, Connect, Create, Call, Delete, Disconnect, Expr, Insert, Line, At as AtMoment, Query, Run, Select, Set, Statement, Update}
 use Rattle.wm_base.specs.declared.refusal.Refusal.{Refusal}
 use Rattle.wm_base.specs.declared.row.Row.{Row}
 use Rattle.wm_syntax.specs.declared.statement.Arg.{Arg}
-use Rattle.wm_syntax.specs.declared.statement.CreateItem.{CreateItem}
 use Rattle.wm_base.specs.declared.value.Value.{Value}
-use Rattle.wm_calls.specs.Arguments.{moment_given}
-use Rattle.wm_calls.specs.Faults.{argument_fault}
 use Rattle.wm_dml.specs.Changing.{added, chosen, gone, replacing, row_key, rows_fault, sets_period, updated_rows}
 use Rattle.wm_dml.specs.Moving.{moves_of, moving}
 use Rattle.wm_dml.specs.Standing.{change_keys}
@@ -22,63 +18,34 @@ use Rattle.wm_grammar.specs.Calls.{procedure_of}
 use Rattle.wm_grammar.specs.Parsed.{Bad, Syntax, Literal, parsed}
 use Rattle.wm_grammar.specs.declared.procedure.Procedure.{Procedure}
 use Rattle.wm_grammar.specs.declared.procedure.Procedure.TheVariants as procedures
-use Rattle.wm_grammar.specs.declared.procedure.Parameter.TheVariants as parameters
 use Rattle.wm_making.proofs.Filled.{row_filled}
 use Rattle.wm_making.specs.Inserting.{insert_fault}
 use Rattle.wm_making.specs.Rows.{row_of, row_fault}
 use Rattle.wm_typing.specs.Changing.{update_fault, delete_fault}
 use Rattle.wm_model.specs.Entered.{entries_of}
-use Rattle.wm_model.specs.Lawful.{IsPlace, IsSound, LawfulState, is_full_row}
+use Rattle.wm_model.specs.Lawful.{IsPlace, LawfulState, is_full_row}
 use Rattle.wm_model.specs.Lines.{fits_line}
-use Rattle.wm_model.specs.Step.Sessions as settings
-use Rattle.wm_model.specs.Step.{Answer, Asking, State, add_found, add_to, altered, at_newest, bear, born, call, call_with, cells_of, claim_of, commit_resolve, connect, create, create_savepoint, create_workspace, delete, difference_given, disconnect, durably, enable, first_clash, frozen_fault, goto_date_plan, goto_savepoint, home_of, goto_workspace, implicit_name, insert, key_there, latest, line_work, lock_fault, lost_source, mode_given, move_all, new_period, no_savepoint, no_table, no_text, parts_locked, replace_all, rows_in, rows_meant, run, run_for, run_line, run_parsed, run_statement, save, saved_at, select, select_from, select_ready, session_of, set_conflict_workspace, set_difference_plan, set_moment, set_valid_time, statement_done, step, table_off, tables_of, taken, timed_line, told_period, too_long_line, update, versioning, with_rows, within, write_all, write_ascending, written_all}
+use Rattle.wm_model.specs.Step.{Answer, Asking, State, add_found, add_to, at_newest, call, call_with, cells_of, claim_of, commit_resolve, delete, first_clash, frozen_fault, home_of, insert, key_there, line_work, lock_fault, lost_source, move_all, new_period, no_table, no_text, parts_locked, replace_all, rows_in, rows_meant, run_for, run_line, run_parsed, run_statement, select, select_from, select_ready, session_of, set_moment, statement_done, step, table_off, tables_of, taken, timed_line, told_period, too_long_line, update, versioning, with_rows, within, write_all, write_ascending, written_all}
 use Rattle.wm_model.proofs.Lawful.Freezing.{leaves_freeze, leaves_unfreeze}
-use Rattle.wm_model.proofs.Lawful.Leaves.{Leaves, leaves_barred, leaves_born, leaves_conflict, leaves_durably, leaves_durably_by, leaves_gone, leaves_if, leaves_period, leaves_run, leaves_saved, leaves_seated, leaves_set, leaves_tables, leaves_unless, leaves_with_named, leaves_written, leaving, live_place, seats_filter, seats_push, stays}
+use Rattle.wm_model.proofs.Lawful.Calls.{leaves_connect, leaves_create, leaves_create_savepoint, leaves_create_workspace, leaves_disconnect, leaves_enable, leaves_goto_date, leaves_goto_savepoint, leaves_goto_workspace, leaves_set_conflict, leaves_set_difference, leaves_valid_time}
+use Rattle.wm_model.proofs.Lawful.Leaves.{Leaves, leaves_barred, leaves_durably_by, leaves_if, leaves_unless, leaves_written, leaving, stays}
 use Rattle.wm_model.proofs.Lawful.Locking.{leaves_lock_rows, leaves_locked, leaves_set_locking, leaves_unlock_rows}
 use Rattle.wm_model.proofs.Lawful.Places.{home_found, place_of}
 use Rattle.wm_model.proofs.Lawful.Rows.{are_full, chosen_full, content_full, entries_written, gone_full, is_full_change, keyed_row, moving_full, replacing_full, rows_full, updated_full}
 use Rattle.wm_model.proofs.Lawful.Merging.{leaves_merge_workspace, leaves_refresh_workspace}
 use Rattle.wm_model.proofs.Lawful.Resolving.{leaves_begin_resolve, leaves_commit_resolve, leaves_resolve_conflicts, leaves_rollback_resolve}
-use Rattle.wm_model.proofs.Lawful.Staging.{staged_filter, staged_push}
-use Rattle.wm_model.proofs.Lawful.Undoing.{leaves_remove_workspace, leaves_rollback_to}
+use Rattle.wm_model.proofs.Lawful.Undoing.{leaves_remove, leaves_rollback}
 use Rattle.wm_outline.specs.Outline.{outline}
-use Rattle.wm_print.specs.Texts.{Done, Fine, Nothing}
+use Rattle.wm_print.specs.Texts.{Done, Nothing}
 use Rattle.wm_reader.specs.Reading.{is_remark}
 use Rattle.wm_spec.specs.declared.record.table.Table.{Table}
 use Rattle.wm_state.specs.Drawing.{are_sorted}
-use Rattle.wm_state.specs.State.{Readiness, Savepoint, Session, Stand, Latest, At, Dated, Workspace, content, savepoint_made, savepoint_named, workspace_of}
+use Rattle.wm_state.specs.State.{Session, Workspace, content, workspace_of}
 
--- ---- sessions and the moment
-
-leaves_opened : (name user : List ℕ) (s : State) → LawfulState s → Leaves (record s { sessions = s.sessions ++ record { name = name; user = user; space = 0; stand = Latest; period = None; conflict = None; resolve = None; freezes = []; locking = None; difference = None } ∷ [] }, Fine)
-leaves_opened name user s l =
-    let x : Session = record { name = name; user = user; space = 0; stand = Latest; period = None; conflict = None; resolve = None; freezes = []; locking = None; difference = None } in
-    leaves_seated s (s.sessions ++ x ∷ []) Fine l (seats_push s.durable.spaces s.sessions x l.seats (live_place s.durable.spaces l.durable.spaces.live))
-    (staged_push (IsSound l.durable.entries.tells s.durable.next_stamp) s.sessions x l.durable.entries.staged tt)
-
-leaves_connect : (name user : List ℕ) (s : State) → LawfulState s → Leaves (connect name user s)
-leaves_connect name user s l = search (leaving, leaves_opened) depth 12
-
-leaves_disconnect : (name : List ℕ) (s : State) → LawfulState s → Leaves (disconnect name s)
-leaves_disconnect name s l =
-    leaves_if _ _ _
-    (leaves_seated s _ _ l (seats_filter s.durable.spaces _ s.sessions l.seats) (staged_filter (IsSound l.durable.entries.tells s.durable.next_stamp) _ s.sessions l.durable.entries.staged))
-    (stays s _ l)
+-- ---- the moment
 
 leaves_moment : (instant : ℕ) (s : State) → LawfulState s → Leaves (set_moment instant s)
 leaves_moment instant s l = leaves_if _ _ _ (stays s _ l) (record { lawful = record { durable = l.durable; seats = l.seats } })
-
-leaves_valid_time : (session : Session) (from : Option ℕ) (till : ℕ) (s : State) → LawfulState s → Leaves (set_valid_time session from till s)
-leaves_valid_time session None till s l = leaves_period session.name None s _ l
-leaves_valid_time session (Some from) till s l = leaves_if _ _ _ (leaves_period session.name _ s _ l) (stays s _ l)
-
--- ---- tables
-
-leaves_create : (name : List ℕ) (items : List CreateItem) (s : State) → LawfulState s → Leaves (create name items s)
-leaves_create name items s l = search (leaving, leaves_tables s) depth 12
-
-leaves_enable : (name : List ℕ) (how : Readiness) (fault : Option (List ℕ)) (s : State) → LawfulState s → Leaves (enable name how fault s)
-leaves_enable name how fault s l = search (leaving, leaves_tables s) depth 12
 
 -- ---- SELECT
 
@@ -189,66 +156,6 @@ leaves_delete session name condition empty s l p =
     (λ table. writes_kept session condition (deletes session) table
     (λ period rows full. writes_ascending session table (length rows) (map (gone table period) rows) (gone_full table period rows full)))
 
--- ---- savepoints and workspaces
-
-writes_save : (name : List ℕ) → Writes (save name)
-writes_save name s w l found = leaves_durably s 0 _ l (leaves_saved w name false w.next_implicit _ s Fine l found refl)
-
-leaves_create_savepoint : (workspace name : List ℕ) (s : State) → LawfulState s → Leaves (create_savepoint workspace name s)
-leaves_create_savepoint workspace name s l = search (leaving, writes_save) depth 12
-
--- one that is found is found by its making
-made_some : (P : Savepoint → Bool) (ks : List Savepoint) (k : Savepoint) → find P ks ≡ Some k → is_some (savepoint_made k.making ks) ≡ true
-made_some P [] k found = absurd (cc)
-made_some P (x ∷ xs) k found = by_test (P x) (x.making == k.making) refl found (made_some P xs k)
-  where
-    by_test : (b c : Bool) → (x.making == k.making) ≡ c → (if b then Some x else find P xs) ≡ Some k → (find P xs ≡ Some k → is_some (savepoint_made k.making xs) ≡ true)
-        → is_some (if c then Some x else savepoint_made k.making xs) ≡ true
-    by_test b true is h rest = refl
-    by_test true false is h rest = absurd (true≢false (sym (eq-eqb x.making k.making (ap (λ (y : Savepoint). y.making) (same_Some x k h))) ∙ is))
-    by_test false false is h rest = rest h
-
-leaves_goto_savepoint : (session : Session) (name : List ℕ) (s : State) → LawfulState s → IsHere s session → Leaves (goto_savepoint session name s)
-leaves_goto_savepoint session name s l p =
-    leaves_if (bytes_eq name latest) _ _ (leaves_gone session.name session.space Latest s _ l (record { space = home_of s session; is = home_found s session p; stands = tt }))
-    (by_savepoint (savepoint_named name (home_of s session).savepoints) refl)
-  where
-    by_savepoint : (o : Option Savepoint) → savepoint_named name (home_of s session).savepoints ≡ o
-        → Leaves (elim o as (λ _. State × Answer) [ None ↦ (s, no_savepoint name) | Some k ↦ (record s { sessions = altered session.name (settings.Stand session.space (At k.making)) s.sessions }, Fine) ])
-    by_savepoint None is = stays s _ l
-    by_savepoint (Some k) is =
-        leaves_gone session.name session.space (At k.making) s _ l
-        (record { space = home_of s session; is = home_found s session p; stands = made_some (λ (x : Savepoint). bytes_eq name x.name) (home_of s session).savepoints k is })
-
-leaves_goto_date : (session : Session) (args : List Arg) (s : State) → LawfulState s → IsHere s session → Leaves (run (goto_date_plan session args (outline s)) s)
-leaves_goto_date session args s l p =
-    leaves_run (goto_date_plan session args (outline s)) s l
-    (λ clear.
-    (leaves_gone session.name session.space (Dated (unwrap_or (moment_given procedures.GotoDate args parameters.InDate) 0)) s Fine l
-    (record { space = home_of s session; is = home_found s session p; stands = tt })).lawful)
-
-writes_bear : (stand : Stand) (name : List ℕ) → Writes (bear stand name)
-writes_bear stand name s w l found = by_savepoint (saved_at s.moment s.durable.spaces w stand (implicit_name w) true) refl
-  where
-    by_savepoint : (o : Option Savepoint) → saved_at s.moment s.durable.spaces w stand (implicit_name w) true ≡ o
-        → Leaves (durably s 0 (record s { durable = unwrap_or (option_map (λ (k : Savepoint). born s.moment w stand name k s.durable) o) s.durable }, Fine))
-    by_savepoint None is = leaves_durably s 0 _ l (stays s Fine l)
-    by_savepoint (Some k) is = leaves_durably s 0 _ l (leaves_born w stand name (implicit_name w) k s Fine l found is)
-
-leaves_create_workspace : (session : Session) (name : List ℕ) (s : State) → LawfulState s → IsHere s session → Leaves (create_workspace session name s)
-leaves_create_workspace session name s l p =
-    let found : workspace_of s.durable.spaces session.space ≡ Some (home_of s session) = home_found s session p in search (leaving, writes_bear) depth 12
-
-leaves_goto_workspace : (session : Session) (name : List ℕ) (s : State) → LawfulState s → Leaves (goto_workspace session name s)
-leaves_goto_workspace session name s l = leaves_with_named s name _ l (λ w found. leaves_gone session.name w.number Latest s _ l (record { space = w; is = found; stands = tt }))
-
-leaves_conflict_workspace : (session : Session) (name : List ℕ) (s : State) → LawfulState s → Leaves (set_conflict_workspace session name s)
-leaves_conflict_workspace session name s l = leaves_with_named s name _ l (λ w found. leaves_conflict session.name name s _ l)
-
-leaves_set_difference : (session : Session) (args : List Arg) (s : State) → LawfulState s → Leaves (run (set_difference_plan session args (outline s)) s)
-leaves_set_difference session args s l =
-    leaves_run (set_difference_plan session args (outline s)) s l (λ clear. (leaves_set session.name (settings.Compare (difference_given args)) s Fine l (λ x old. old) tt).lawful)
-
 -- ---- lines
 
 -- the session is the one of its name, and stands somewhere
@@ -260,26 +167,26 @@ leaves_commits : (session : Session) (name : List ℕ) (s : State) → LawfulSta
 leaves_commits session name s l one = leaves_commit_resolve session name s l (λ (x : Session). bytes_eq one.name x.name) one.found
 
 leaves_call : (session : Session) (procedure : Option Procedure) (args : List Arg) (s : State) → LawfulState s → IsHere s session → IsOne s session → Leaves (call session procedure args s)
-leaves_call session (Some procedures.EnableVersioning) args s l p one = search (leaving, leaves_enable) depth 12
-leaves_call session (Some procedures.CreateWorkspace) args s l p one = search (leaving, leaves_create_workspace) depth 12
-leaves_call session (Some procedures.CreateSavepoint) args s l p one = search (leaving, leaves_create_savepoint) depth 12
-leaves_call session (Some procedures.GotoWorkspace) args s l p one = search (leaving, leaves_goto_workspace) depth 12
-leaves_call session (Some procedures.GotoSavepoint) args s l p one = search (leaving, leaves_goto_savepoint) depth 12
+leaves_call session (Some procedures.EnableVersioning) args s l p one = leaves_enable args s l
+leaves_call session (Some procedures.CreateWorkspace) args s l p one = leaves_create_workspace session args s l
+leaves_call session (Some procedures.CreateSavepoint) args s l p one = leaves_create_savepoint args s l
+leaves_call session (Some procedures.GotoWorkspace) args s l p one = leaves_goto_workspace session args s l
+leaves_call session (Some procedures.GotoSavepoint) args s l p one = leaves_goto_savepoint session args s l p
 leaves_call session (Some procedures.GotoDate) args s l p one = leaves_goto_date session args s l p
 leaves_call session (Some procedures.SetDiffVersions) args s l p one = leaves_set_difference session args s l
-leaves_call session (Some procedures.SetValidTime) args s l p one = search (leaving, leaves_valid_time) depth 12
-leaves_call session (Some procedures.SetConflictWorkspace) args s l p one = search (leaving, leaves_conflict_workspace) depth 12
-leaves_call session (Some procedures.RollbackToSp) args s l p one = search (leaving, leaves_rollback_to) depth 12
-leaves_call session (Some procedures.RemoveWorkspace) args s l p one = search (leaving, leaves_remove_workspace) depth 12
+leaves_call session (Some procedures.SetValidTime) args s l p one = leaves_valid_time session args s l
+leaves_call session (Some procedures.SetConflictWorkspace) args s l p one = leaves_set_conflict session args s l
+leaves_call session (Some procedures.RollbackToSp) args s l p one = leaves_rollback args s l
+leaves_call session (Some procedures.RemoveWorkspace) args s l p one = leaves_remove args s l
 leaves_call session (Some procedures.RefreshWorkspace) args s l p one = search (leaving, leaves_refresh_workspace) depth 12
 leaves_call session (Some procedures.MergeWorkspace) args s l p one = search (leaving, leaves_merge_workspace) depth 12
 leaves_call session (Some procedures.FreezeWorkspace) args s l p one = leaves_freeze session args s l
 leaves_call session (Some procedures.UnfreezeWorkspace) args s l p one = leaves_unfreeze args s l
-leaves_call session (Some procedures.SetLockingOn) args s l p one = leaves_set_locking session (argument_fault procedures.SetLockingOn args) (Some (mode_given procedures.SetLockingOn args parameters.LockMode)) s l
-leaves_call session (Some procedures.SetLockingOff) args s l p one = leaves_set_locking session (argument_fault procedures.SetLockingOff args) None s l
-leaves_call session (Some procedures.BeginResolve) args s l p one = search (leaving, leaves_begin_resolve) depth 12
+leaves_call session (Some procedures.SetLockingOn) args s l p one = leaves_set_locking session _ _ s l
+leaves_call session (Some procedures.SetLockingOff) args s l p one = leaves_set_locking session _ _ s l
+leaves_call session (Some procedures.BeginResolve) args s l p one = leaves_begin_resolve session args s l
 leaves_call session (Some procedures.CommitResolve) args s l p one = search (leaving, leaves_commits) depth 12
-leaves_call session (Some procedures.RollbackResolve) args s l p one = search (leaving, leaves_rollback_resolve) depth 12
+leaves_call session (Some procedures.RollbackResolve) args s l p one = leaves_rollback_resolve session args s l
 leaves_call session _ args s l p one = stays s _ l
 
 leaves_call_with : (session : Session) (procedure : Option Procedure) (args : List Arg) (condition : Option Cond) (empty : Bool) (s : State) → LawfulState s → IsHere s session → IsOne s session → Leaves (call_with session procedure args condition empty s)

@@ -1,26 +1,32 @@
 -- A workspace that goes back to one of its savepoints, and workspaces of which one goes, leave a lawful state.
-use Rattle.std.proofs.Common.{◌≡◌, ◌≢◌, ℕ, zero, suc, ◌<◌, ◌≤◌, ◌==◌, Bool, true, false, not, ◌&&◌, ◌||◌, nat_le, nat_lt, if◌then◌else◌, List, [], ◌∷◌, ◌++◌, length, take, drop, Option, Some, None, is_some, refl, sym, ap, ◌∙◌, append_assoc, arith, ◌⊎◌, inl, inr, le_refl}
+use Rattle.std.proofs.Common.{◌≡◌, ◌≢◌, ℕ, zero, suc, ◌<◌, ◌≤◌, ◌==◌, Bool, true, false, not, ◌&&◌, ◌||◌, nat_le, nat_lt, if◌then◌else◌, List, [], ◌∷◌, ◌++◌, length, map, take, drop, unwrap_or, Option, Some, None, is_some, option_map, refl, sym, ap, ◌∙◌, append_assoc, subst, arith, ◌⊎◌, inl, inr, le_refl}
 use Rattle.std.proofs.lemmas.Bool.{cases_eq, eq-eqb, eqb-true, leb-true, ne_eqb, and_parts, ltb-false, not-false, not-true, or_parts, true≢false}
 use Rattle.std.proofs.lemmas.List.{append_cancel_right, drop-append-le, length-take-le, take-append-drop}
 use Rattle.std.specs.List.{find, list_any}
 use Rattle.std.specs.Option.{option_map_or}
-use Rattle.std.specs.Str.{bytes_eq}
 use Rattle.wm_base.proofs.Plain.{and_last}
 use Rattle.wm_base.specs.declared.refusal.Refusal.{Refusal}
 use Rattle.wm_net.proofs.Merging.{point_cut}
+use Rattle.wm_outline.specs.Outline.{outline, outline_in}
 use Rattle.wm_print.specs.Texts.{Fine}
 use Rattle.wm_spec.specs.Lists.{Entry}
-use Rattle.wm_state.specs.Editing.{is_other, restored, restored_in, stays_at, unlocked_of, without}
-use Rattle.wm_state.specs.State.{Durable, Savepoint, Session, Stand, Latest, At, Dated, Workspace, savepoint_made, savepoint_named, turn_of, with_space, workspace_of}
+use Rattle.wm_syntax.specs.declared.statement.Arg.{Arg}
+use Rattle.wm_state.specs.Editing.{edited, is_other, restored, restored_in, stays_at, unlocked_of, without}
+use Rattle.wm_state.specs.State.{Durable, Savepoint, Session, Stand, Latest, At, Dated, Workspace, savepoint_made, turn_of, with_space, workspace_of}
+use Rattle.wm_state.specs.Standing.{SavepointFields, fields_saved}
+use Rattle.wm_state.specs.declared.edit.Edit.TheVariants as edits
 use Rattle.wm_state.proofs.Changing.{differ-changed}
+use Rattle.wm_state.proofs.Frames.{savepoints_of-found}
 use Rattle.wm_state.proofs.Mapped.{find-filter, find-passes}
 use Rattle.wm_state.proofs.Tests.{differ_filter}
 use Rattle.wm_model.specs.Lawful.{Based, Each, Holds, IsAt, IsPlace, IsSound, Lawful, LawfulMark, LawfulSpace, LawfulSpaces, LawfulState, Seats, one_number}
-use Rattle.wm_model.specs.Step.{Answer, State, dependent_child, depends, first_fault, has_child, is_child, no_parent, no_savepoint, rebased_since, remove, remove_workspace, removed, removing_faults, roll_back, rollback_to, rolling_faults, is_still, session_inside, stands_behind, stands_in, unless, would_go}
+use Rattle.wm_model.specs.Seating.{Stay, planned, thawed}
+use Rattle.wm_model.specs.Step.{Answer, State, dependent_child, depends, has_child, is_child, is_child_of, is_inside, is_still, no_parent, rebased_since, remove_plan, removing, rollback_plan, rolling, rolling_faults, run, session_inside, stands_behind, stays_behind, unless, would_go}
 use Rattle.wm_model.proofs.Lawful.Entries.{all_swapped}
-use Rattle.wm_model.proofs.Lawful.Firsts.{no_faults, none_inside, none_named, none_refused, not_refused}
-use Rattle.wm_model.proofs.Lawful.Leaves.{Leaves, leaves_durably, leaves_if, leaves_thawed, leaves_with_named, stays}
-use Rattle.wm_model.proofs.Lawful.Lists.{found_both}
+use Rattle.wm_model.proofs.Lawful.Firsts.{NoFaults, none_inside, none_outlined, none_refused, not_refused}
+use Rattle.wm_model.proofs.Lawful.Leaves.{Keeps, Leaves, leaves_run, leaves_thawed, stays}
+use Rattle.wm_model.proofs.Lawful.Plans.{keeping, planned_edit}
+use Rattle.wm_model.proofs.Lawful.Lists.{found_both, found_mapped}
 use Rattle.wm_model.proofs.Lawful.Spaces.{Becomes, Swapped, based_as_before, number_is, place_swapped, spaces_become, swapped}
 
 -- ---- sessions that pass no test
@@ -67,11 +73,15 @@ space_restored w P k l found same = let m = l.marks P k found in record {
   latest = m.alike;
   marks = λ Q x other. mark_cut w k x m same (left_shorter k x (left_stays Q w k x other)) (l.marks (λ y. stays_at k y && Q y) x (found_left Q w k x other));
   rises = λ Q R a b one other. l.rises (λ y. stays_at k y && Q y) (λ y. stays_at k y && R y) a b (found_left Q w k a one) (found_left R w k b other);
+  made = λ Q x other. made x (left_stays Q w k x other) (l.made (λ y. stays_at k y && Q y) x (found_left Q w k x other));
   first = l.first;
   last = λ t turned. m.turn t (ap (turn_of w) same ∙ turned);
   live = l.live;
   turns = l.turns;
 }
+  where
+    made : (x : Savepoint) → stays_at k x ≡ true → savepoint_made x.making w.savepoints ≡ Some x → savepoint_made x.making (restored k w).savepoints ≡ Some x
+    made x stays there = let P = λ (y : Savepoint). y.making == x.making in find-filter (stays_at k) P w.savepoints ∙ found_both (stays_at k) P w.savepoints x there stays
 
 each_take : (P : Entry → Type 0) (n : ℕ) (xs : List Entry) → Each P xs → Each P (take n xs)
 each_take P zero xs each = tt
@@ -90,10 +100,10 @@ holds_restored P Q w k h found = let m = h.marks Q k found in record {
 
 -- no workspace took what came behind the savepoint
 abbrev NoneDepends : List Session → Durable → Workspace → Savepoint → Type 0
-NoneDepends xs d w k = (n : ℕ) (x : Workspace) → workspace_of d.spaces n ≡ Some x → depends xs w k x ≡ false
+NoneDepends xs d w k = (n : ℕ) (x : Workspace) → workspace_of d.spaces n ≡ Some x → depends xs (outline_in w) (fields_saved k) (outline_in x) ≡ false
 
 -- a child that does not took no more of the log than the savepoint had
-took_less : (xs : List Session) (w x : Workspace) (k : Savepoint) → x.parent ≡ w.number → x.number ≢ w.number → depends xs w k x ≡ false → x.from ≤ k.log_length
+took_less : (xs : List Session) (w x : Workspace) (k : Savepoint) → x.parent ≡ w.number → x.number ≢ w.number → depends xs (outline_in w) (fields_saved k) (outline_in x) ≡ false → x.from ≤ k.log_length
 took_less xs w x k here other none =
     let child : is_child w x ≡ true = rw (eq-eqb x.parent w.number here, ne_eqb x.number w.number other) refl in
     let late = or_parts (nat_lt k.place x.birth_place || nat_lt k.log_length x.from) _ (and_last (is_child w x) _ child none) in
@@ -131,32 +141,32 @@ lawful_restored xs w P k d l known found same none =
     }
 
 -- one stands so still, where a rollback leaves what one stands at
-stands_restored : (w : Workspace) (k : Savepoint) (stand : Stand) → would_go w k stand ≡ false → IsAt w stand → IsAt (restored k w) stand
+stands_restored : (w : Workspace) (k : Savepoint) (stand : Stand) → would_go (outline_in w) (fields_saved k) stand ≡ false → IsAt w stand → IsAt (restored k w) stand
 stands_restored w k Latest none stood = tt
 stands_restored w k (Dated date) none stood = tt
-stands_restored w k (At making) none stood = by_savepoint (savepoint_made making w.savepoints) refl none stood
+stands_restored w k (At making) none stood = by_savepoint (savepoint_made making w.savepoints) refl (ap (λ o. option_map_or goes o false) (found_mapped fields_saved (λ (y : SavepointFields). y.making == making) w.savepoints) ∙ none) stood
   where
-    by_savepoint : (o : Option Savepoint) → savepoint_made making w.savepoints ≡ o → option_map_or (λ (j : Savepoint). not (stays_at k j)) o false ≡ false → is_some o ≡ true → is_some (savepoint_made making (restored k w).savepoints) ≡ true
+    goes : SavepointFields → Bool
+    goes j = not (stays_behind (fields_saved k) j)
+
+    by_savepoint : (o : Option Savepoint) → savepoint_made making w.savepoints ≡ o → option_map_or goes (option_map fields_saved o) false ≡ false → is_some o ≡ true → is_some (savepoint_made making (restored k w).savepoints) ≡ true
     by_savepoint None is none stood = absurd (cc)
     by_savepoint (Some j) is none stood =
         let P = λ (y : Savepoint). y.making == making in
         ap (λ (o : Option Savepoint). is_some o) (find-filter (stays_at k) P w.savepoints ∙ found_both (stays_at k) P w.savepoints j is (not-false (stays_at k j) none))
 
-place_restored : (ws vs : List Workspace) (w : Workspace) (k : Savepoint) (x : Session) → Swapped ws vs w.number w (restored k w) → stands_behind w k x ≡ false → IsPlace ws x.space x.stand → IsPlace vs x.space x.stand
+place_restored : (ws vs : List Workspace) (w : Workspace) (k : Savepoint) (x : Session) → Swapped ws vs w.number w (restored k w) → stands_behind (outline_in w) (fields_saved k) x ≡ false → IsPlace ws x.space x.stand → IsPlace vs x.space x.stand
 place_restored ws vs w k x swap none p =
     place_swapped ws vs w.number w (restored k w) x.space x.stand swap
-    (λ here. stands_restored w k x.stand (and_last (x.space == w.number) (would_go w k x.stand) (eq-eqb x.space w.number here) none)) p
+    (λ here. stands_restored w k x.stand (and_last (x.space == w.number) (would_go (outline_in w) (fields_saved k) x.stand) (eq-eqb x.space w.number here) none)) p
 
-leaves_restored : (w : Workspace) (P : Savepoint → Bool) (k : Savepoint) (s : State) (answer : Answer) → LawfulState s → workspace_of s.durable.spaces w.number ≡ Some w → find P w.savepoints ≡ Some k → k.rebases ≡ w.rebases
-    → NoneDepends s.sessions s.durable w k
-    → list_any (stands_behind w k) s.sessions ≡ false → Leaves (record s { durable = restored_in w.number s.durable k }, answer)
-leaves_restored w P k s answer l known found same none away = record {
-  lawful = record {
-    durable = lawful_restored s.sessions w P k s.durable l.durable known found same none;
-    seats = seats_unless s.durable.spaces (with_space w.number (restored k) s.durable.spaces) (stands_behind w k)
-        (λ x out. place_restored s.durable.spaces (with_space w.number (restored k) s.durable.spaces) w k x (swapped s.durable.spaces w.number (restored k) w (λ _. refl) known) out)
-        s.sessions away l.seats;
-  };
+state_restored : (w : Workspace) (P : Savepoint → Bool) (k : Savepoint) (s : State) → LawfulState s → workspace_of s.durable.spaces w.number ≡ Some w → find P w.savepoints ≡ Some k → k.rebases ≡ w.rebases
+    → NoneDepends s.sessions s.durable w k → list_any (stands_behind (outline_in w) (fields_saved k)) s.sessions ≡ false → LawfulState (record s { durable = restored_in w.number s.durable k })
+state_restored w P k s l known found same none away = record {
+  durable = lawful_restored s.sessions w P k s.durable l.durable known found same none;
+  seats = seats_unless s.durable.spaces (with_space w.number (restored k) s.durable.spaces) (stands_behind (outline_in w) (fields_saved k))
+      (λ x out. place_restored s.durable.spaces (with_space w.number (restored k) s.durable.spaces) w k x (swapped s.durable.spaces w.number (restored k) w (λ _. refl) known) out)
+      s.sessions away l.seats;
 }
 
 -- ---- a workspace goes
@@ -210,14 +220,21 @@ spaces_left ws w l above none = record {
       based_left ws w x (λ same. h.0 (sym number ∙ same)) (none m x h.1) (l.bases m x over h.1);
 }
 
-place_left : (ws : List Workspace) (w : Workspace) (x : Session) → stands_in w x ≡ false → IsPlace ws x.space x.stand → IsPlace (without w.number ws) x.space x.stand
+place_left : (ws : List Workspace) (w : Workspace) (x : Session) → is_inside w x ≡ false → IsPlace ws x.space x.stand → IsPlace (without w.number ws) x.space x.stand
 place_left ws w x none p = record {
   space = p.space;
   is = found_other w.number x.space (λ here. true≢false (sym (eq-eqb x.space w.number here) ∙ none)) ws ∙ p.is;
   stands = p.stands;
 }
 
-pub leaves_left : (w : Workspace) (s : State) (answer : Answer) → LawfulState s → 0 < w.number → NoChild s.durable.spaces w → list_any (stands_in w) s.sessions ≡ false → Leaves (removed w s, answer)
+-- the state without a workspace, with all that is its own; no session holds it for itself any more
+abbrev pub removed : Workspace → State → State
+removed w s = record s {
+  durable = record s.durable { spaces = without w.number s.durable.spaces; locks = unlocked_of w.number s.durable.locks };
+  sessions = map (thawed w.number) s.sessions;
+}
+
+pub leaves_left : (w : Workspace) (s : State) (answer : Answer) → LawfulState s → 0 < w.number → NoChild s.durable.spaces w → list_any (is_inside w) s.sessions ≡ false → Leaves (removed w s, answer)
 leaves_left w s answer l above none away = leaves_thawed w.number (record s { durable = left }) answer (record {
   durable = record {
     spaces = spaces_left s.durable.spaces w l.durable.spaces above none;
@@ -227,7 +244,7 @@ leaves_left w s answer l above none away = leaves_thawed w.number (record s { du
       staged = l.durable.entries.staged;
     };
   };
-  seats = seats_unless s.durable.spaces (without w.number s.durable.spaces) (stands_in w) (λ x out. place_left s.durable.spaces w x out) s.sessions away l.seats;
+  seats = seats_unless s.durable.spaces (without w.number s.durable.spaces) (is_inside w) (λ x out. place_left s.durable.spaces w x out) s.sessions away l.seats;
 })
   where
     left : Durable
@@ -240,34 +257,44 @@ pub leaves_faultless : (fault : Option Refusal) (s : State) (done : State × Ans
 leaves_faultless None s done l d = d refl
 leaves_faultless (Some refusal) s done l d = stays s _ l
 
-leaves_roll_back : (w : Workspace) (P : Savepoint → Bool) (k : Savepoint) (s : State) → LawfulState s → workspace_of s.durable.spaces w.number ≡ Some w → find P w.savepoints ≡ Some k → first_fault (rolling_faults s w k) ≡ None → Leaves (roll_back w k s)
-leaves_roll_back w P k s l known found none =
-    let h = no_faults (rolling_faults s w k) none in
-    let inside = none_refused (session_inside w.name) (λ _. refl) _ h.0 in
-    let dependent = none_refused dependent_child (λ _. refl) _ h.1.0 in
-    let rebased = not_refused (not (k.rebases == w.rebases)) (rebased_since k.name) refl h.1.1.0 in
-    leaves_if (is_still s.durable.locks w k) _ _ (stays s _ l)
-    (leaves_durably s 0 _ l
-    (leaves_restored w P k s Fine l known found (eqb-true k.rebases w.rebases (not-false (k.rebases == w.rebases) rebased)) (none_named (depends s.sessions w k) s dependent) (none_inside (stands_behind w k) s.sessions inside)))
+-- a savepoint of the workspace that is found by its name is found by its making
+restored_there : (w : Workspace) (P : Savepoint → Bool) (k : Savepoint) (s : State) → LawfulState s → workspace_of s.durable.spaces w.number ≡ Some w → find P w.savepoints ≡ Some k
+    → edited s.moment (edits.Restore w.number k.making) s.durable ≡ restored_in w.number s.durable k
+restored_there w P k s l known found =
+    ap (λ (o : Option Savepoint). unwrap_or (option_map (restored_in w.number s.durable) o) s.durable)
+    (ap (savepoint_made k.making) (savepoints_of-found s.durable.spaces w.number w known) ∙ (l.durable.spaces.each w.number w known).made P k found)
 
-pub leaves_rollback_to : (workspace name : List ℕ) (s : State) → LawfulState s → Leaves (rollback_to workspace name s)
-leaves_rollback_to workspace name s l = leaves_with_named s workspace _ l (λ w known. by_savepoint w known (savepoint_named name w.savepoints) refl)
+keeps_rolling : (w : Workspace) (P : Savepoint → Bool) (k : Savepoint) (s : State) → LawfulState s → workspace_of s.durable.spaces w.number ≡ Some w → find P w.savepoints ≡ Some k → Keeps s (rolling (outline s) (outline_in w) (fields_saved k))
+keeps_rolling w P k s l known found = record { lawful = λ none. by_still (is_still (outline s) (outline_in w) (fields_saved k)) none }
   where
-    by_savepoint : (w : Workspace) → workspace_of s.durable.spaces w.number ≡ Some w → (o : Option Savepoint) → savepoint_named name w.savepoints ≡ o
-        → Leaves (elim o as (λ _. State × Answer) [ None ↦ (s, no_savepoint name) | Some k ↦ unless (first_fault (rolling_faults s w k)) s (roll_back w k s) ])
-    by_savepoint w known None is = stays s _ l
-    by_savepoint w known (Some k) is = leaves_faultless (first_fault (rolling_faults s w k)) s _ l (leaves_roll_back w (λ (x : Savepoint). bytes_eq name x.name) k s l known is)
+    back : NoFaults (rolling_faults (outline s) (outline_in w) (fields_saved k)) → LawfulState (record s { durable = restored_in w.number s.durable k })
+    back h =
+        let inside = none_refused (session_inside w.name) (λ _. refl) _ h.0 in
+        let dependent = none_refused dependent_child (λ _. refl) _ h.1.0 in
+        let rebased = not_refused (not (k.rebases == w.rebases)) (rebased_since k.name) refl h.1.1.0 in
+        state_restored w P k s l known found (eqb-true k.rebases w.rebases (not-false (k.rebases == w.rebases) rebased))
+        (none_outlined (depends s.sessions (outline_in w) (fields_saved k)) s dependent)
+        (none_inside (stands_behind (outline_in w) (fields_saved k)) s.sessions inside)
 
-leaves_remove : (w : Workspace) (s : State) → LawfulState s → 0 < w.number → first_fault (removing_faults s w) ≡ None → Leaves (remove w s)
-leaves_remove w s l above none =
-    let h = no_faults (removing_faults s w) none in
-    let inside = none_refused (session_inside w.name) (λ _. refl) _ h.0 in
-    let child = none_refused (has_child w.name) (λ _. refl) _ h.1.0 in
-    leaves_durably s 0 _ l (leaves_left w s Fine l above (none_named (is_child w) s child) (none_inside (stands_in w) s.sessions inside))
+    by_still : (b : Bool) → NoFaults (rolling_faults (outline s) (outline_in w) (fields_saved k)) → LawfulState (planned s.moment s.moment (if b then [] else edits.Restore w.number k.making ∷ []) Stay s)
+    by_still true none = l
+    by_still false none = planned_edit (edits.Restore w.number k.making) s (subst (λ (d : Durable). LawfulState (record s { durable = d })) (sym (restored_there w P k s l known found)) (back none))
 
-pub leaves_remove_workspace : (name : List ℕ) (s : State) → LawfulState s → Leaves (remove_workspace name s)
-leaves_remove_workspace name s l = leaves_with_named s name _ l (λ w known. by_number w (cases_eq w.number 0))
+pub leaves_rollback : (args : List Arg) (s : State) → LawfulState s → Leaves (run (rollback_plan args (outline s)) s)
+leaves_rollback args s l = leaves_run (rollback_plan args (outline s)) s l (search (keeping, keeps_rolling) depth 12)
+
+keeps_removing : (name : List ℕ) (w : Workspace) (s : State) → LawfulState s → Keeps s (removing name (outline s) (outline_in w))
+keeps_removing name w s l = record {
+  lawful = λ h.
+      let live = not_refused (w.number == 0) (no_parent name) refl h.0 in
+      let inside = none_refused (session_inside w.name) (λ _. refl) _ h.1.0 in
+      let child = none_refused (has_child w.name) (λ _. refl) _ h.1.1.0 in
+      let k = (leaves_left w s Fine l (above live) (none_outlined (is_child_of w.number) s child) (none_inside (is_inside w) s.sessions inside)).lawful in
+      record { durable = record { spaces = k.durable.spaces; entries = k.durable.entries }; seats = k.seats };
+}
   where
-    by_number : (w : Workspace) → (w.number ≡ 0) ⊎ (w.number ≢ 0) → Leaves (if w.number == 0 then (s, no_parent name) else unless (first_fault (removing_faults s w)) s (remove w s))
-    by_number w (inl live) = rw (eq-eqb w.number 0 live) (stays s _ l)
-    by_number w (inr other) = rw (ne_eqb w.number 0 other) (leaves_faultless (first_fault (removing_faults s w)) s _ l (leaves_remove w s l (omega (arith, other))))
+    above : (w.number == 0) ≡ false → 0 < w.number
+    above other = let some : w.number ≢ 0 = λ e. true≢false (sym (eq-eqb w.number 0 e) ∙ other) in omega (arith, some)
+
+pub leaves_remove : (args : List Arg) (s : State) → LawfulState s → Leaves (run (remove_plan args (outline s)) s)
+leaves_remove args s l = leaves_run (remove_plan args (outline s)) s l (search (keeping, keeps_removing) depth 10)

@@ -1,13 +1,11 @@
 -- What lines ask of the workspaces that they are about: whether freezing allows it.
-use Rattle.std.specs.Prelude.{ℕ, ◌==◌, Bool, not, List, [], ◌∷◌, Option, None, Some, unwrap_or}
+use Rattle.std.specs.Prelude.{ℕ, ◌==◌, Bool, not, List, [], ◌∷◌, Option, None, Some}
 use Rattle.std.specs.List.{list_any}
 use Rattle.std.specs.Option.{option_and_then}
 use Rattle.wm_base.specs.declared.refusal.Refusal.{Refusal}
-use Rattle.wm_calls.specs.Arguments.{text_given}
 use Rattle.wm_grammar.specs.Calls.{procedure_of}
 use Rattle.wm_grammar.specs.declared.procedure.Procedure.{Procedure}
 use Rattle.wm_grammar.specs.declared.procedure.Procedure.TheVariants as procedures
-use Rattle.wm_grammar.specs.declared.procedure.Parameter.TheVariants as parameters
 use Rattle.wm_guard.specs.Access.{Hold, allows, held_by, word_of}
 use Rattle.wm_guard.specs.declared.access.Class.{Class}
 use Rattle.wm_guard.specs.declared.access.Class.TheVariants.{Enter, Write, Manage}
@@ -15,6 +13,7 @@ use Rattle.wm_outline.specs.Outline.{Outline, SpaceOutline}
 use Rattle.wm_state.specs.State.{Session}
 use Rattle.wm_syntax.specs.Trees.{Statement, Create, Insert, Update, Delete, Select, Call}
 use Rattle.wm_syntax.specs.declared.statement.Arg.{Arg}
+use Rattle.wm_model.specs.Step.Given.{workspace_given}
 use Rattle.wm_model.specs.Step.Plans.{space_named, space_numbered}
 use Rattle.wm_model.specs.Step.Refusing.{first_fault, frozen, refused_if}
 use Rattle.wm_model.specs.Step.Undoing.{first_session}
@@ -74,10 +73,6 @@ asked_fault Nothing session name o = None
 asked_fault (Home class) session name o = numbered_fault class session o session.space
 asked_fault (Named class) session name o = named_fault class session o name
 asked_fault (Both class) session name o = option_and_then (family_fault class session o) (space_named name o)
-
--- the workspace that a call names
-abbrev pub workspace_given : Procedure → List Arg → List ℕ
-workspace_given procedure args = unwrap_or (text_given procedure args parameters.Workspace) []
 
 abbrev pub frozen_call : Session → Option Procedure → List Arg → Outline → Option Refusal
 frozen_call session None args o = None

@@ -1,5 +1,5 @@
 -- SetLockingON, SetLockingOFF, LockRows and UnlockRows.
-use Rattle.std.specs.Prelude.{ℕ, ◌==◌, Bool, false, not, ◌&&◌, if◌then◌else◌, List, [], ◌∷◌, length, map, Option, None, Some, unwrap_or, codes}
+use Rattle.std.specs.Prelude.{ℕ, ◌==◌, Bool, false, not, ◌&&◌, if◌then◌else◌, List, [], ◌∷◌, length, map, Option, None, unwrap_or, codes}
 use Rattle.std.specs.List.{filter}
 use Rattle.std.specs.Option.{option_map_or}
 use Rattle.std.specs.Str.{bytes_eq}
@@ -12,7 +12,6 @@ use Rattle.wm_calls.specs.Takes.{is_written}
 use Rattle.wm_decided.specs.Keys.{columns_of_keys, meets_key}
 use Rattle.wm_dml.specs.Changing.{chosen, declared_values, row_key, row_period}
 use Rattle.wm_grammar.specs.declared.procedure.Procedure.{Procedure}
-use Rattle.wm_grammar.specs.declared.procedure.Procedure.TheVariants as procedures
 use Rattle.wm_grammar.specs.declared.procedure.Parameter.{Parameter}
 use Rattle.wm_grammar.specs.declared.procedure.Parameter.TheVariants as parameters
 use Rattle.wm_guard.specs.Barring.{locks_in}
@@ -25,7 +24,7 @@ use Rattle.wm_spec.specs.declared.record.lock.Lock.{Lock}
 use Rattle.wm_spec.specs.declared.record.lock.LockMode.{LockMode}
 use Rattle.wm_spec.specs.declared.record.lock.LockMode.TheVariants.{Exclusive, Shared, WorkspaceExclusive, VersionExclusive}
 use Rattle.wm_spec.specs.declared.record.table.Table.{Table}
-use Rattle.wm_state.specs.State.{Session, State, Workspace, content, table_named, workspace_of}
+use Rattle.wm_state.specs.State.{Session, State, content, table_named, workspace_of}
 use Rattle.wm_state.specs.declared.edit.Edit.{Edit}
 use Rattle.wm_state.specs.declared.edit.Edit.TheVariants as edits
 use Rattle.wm_state.specs.declared.edit.NewLock.{NewLock}
@@ -34,7 +33,7 @@ use Rattle.wm_syntax.specs.declared.statement.Arg.{Arg}
 use Rattle.wm_typing.specs.Types.{mistyped_in_filter}
 use Rattle.wm_model.specs.Seating.{Stay, Set}
 use Rattle.wm_model.specs.Step.Faulting.{fault_around, unkeyed_fault}
-use Rattle.wm_model.specs.Step.Locks.{Holder, claim_of, lock_fault, lock_parts, unlock_edits}
+use Rattle.wm_model.specs.Step.Locks.{claim_of, lock_fault, lock_parts, unlock_edits}
 use Rattle.wm_model.specs.Step.Periods.{within}
 use Rattle.wm_model.specs.Step.Plans.{Plan, also, for_named, for_table, for_text, space_named, spent, spent_by}
 use Rattle.wm_model.specs.Step.Querying.{rows_in}

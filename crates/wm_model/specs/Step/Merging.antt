@@ -20,7 +20,8 @@ use Rattle.wm_model.specs.Step.Locks.{Claim, cells_of, has_locks, lock_fault}
 use Rattle.wm_model.specs.Step.Periods.{told_period}
 pub use Rattle.wm_model.specs.Step.Naming.{parent_in}
 use Rattle.wm_model.specs.Step.Naming.{with_named}
-use Rattle.wm_model.specs.Step.Undoing.{first_name, first_session, is_child, resolving_fault, stands_in}
+use Rattle.wm_model.specs.Step.Older.{first_name, is_child, is_inside, resolving_fault}
+use Rattle.wm_model.specs.Step.Undoing.{first_session}
 
 -- ---- a workspace beside its parent
 
@@ -90,7 +91,7 @@ is_even p w = (length w.lists.own == 0) && is_quiet p w
 -- what a merge with removal is refused for
 abbrev pub leaving_faults : Bool → State → Workspace → List (Option Refusal)
 leaving_faults removes s w =
-    (if removes then refused_for (session_inside w.name) (first_session (stands_in w) s.sessions) else None)
+    (if removes then refused_for (session_inside w.name) (first_session (is_inside w) s.sessions) else None)
     ∷ (if removes then refused_for (has_child w.name) (first_name (is_child w) s) else None)
     ∷ []
 

@@ -8,11 +8,13 @@ use Rattle.wm_outline.specs.Outline.{Outline, SpaceOutline}
 use Rattle.wm_print.specs.Texts.{Answer, Fine, Refused}
 use Rattle.wm_spec.specs.declared.record.table.Table.{Table}
 use Rattle.wm_state.specs.Editing.{counter_limit, line_work}
-use Rattle.wm_state.specs.State.{State}
+use Rattle.wm_state.specs.Standing.{SavepointFields}
+use Rattle.wm_state.specs.State.{Session, State}
 use Rattle.wm_state.specs.declared.edit.Edit.{Edit}
-use Rattle.wm_model.specs.Seating.{Seating, Stay, planned}
+use Rattle.wm_model.specs.Seating.{Seating, Set, Stay, planned}
 use Rattle.wm_model.specs.Step.Places.{least, place}
-use Rattle.wm_model.specs.Step.Refusing.{at_its_end, mistyped, refusal_of, refused_if}
+use Rattle.wm_model.specs.Step.Refusing.{at_its_end, mistyped, no_workspace, refusal_of, refused_if}
+use Rattle.wm_model.specs.Step.Sessions.{Setting}
 
 -- faults in any order
 pub record Plan : Type 0 where
@@ -51,6 +53,14 @@ run p s = comes (outcome p) s
 
 -- ---- what plans have in common
 
+-- a plan that makes these edits, and is answered that it is done
+abbrev pub doing : List (Option Refusal) → List Edit → Plan
+doing faults edits = record { faults = faults; edits = edits; seating = Stay; answer = Fine }
+
+-- one that sets something of the session
+abbrev pub setting : List (Option Refusal) → Session → Setting → Plan
+setting faults session what = record { faults = faults; edits = []; seating = Set session.name what; answer = Fine }
+
 -- a plan that is refused at once
 abbrev pub refusing : Answer → Plan
 refusing answer = record { faults = refusal_of answer ∷ []; edits = []; seating = Stay; answer = Fine }
@@ -83,6 +93,22 @@ space_numbered n o = find (λ (x : SpaceOutline). x.number == n) o.spaces
 abbrev pub for_named : Answer → (SpaceOutline → Plan) → Option SpaceOutline → Plan
 for_named lacks act None = refusing lacks
 for_named lacks act (Some x) = act x
+
+-- the plan for the workspace that a session stands in, which is there in each state that lines lead to
+abbrev pub for_home : (SpaceOutline → Plan) → Session → Outline → Plan
+for_home act session o = for_named (no_workspace []) act (space_numbered session.space o)
+
+-- the savepoint of a name in a workspace, and that of a making
+abbrev pub savepoint_called : List ℕ → SpaceOutline → Option SavepointFields
+savepoint_called name x = find (λ (k : SavepointFields). bytes_eq name k.name) x.savepoints
+
+abbrev pub savepoint_at : ℕ → SpaceOutline → Option SavepointFields
+savepoint_at making x = find (λ (k : SavepointFields). k.making == making) x.savepoints
+
+-- the plan for a savepoint
+abbrev pub for_savepoint : Answer → (SavepointFields → Plan) → Option SavepointFields → Plan
+for_savepoint lacks act None = refusing lacks
+for_savepoint lacks act (Some k) = act k
 
 -- the plan with a text that is given for a parameter that the call requires; where it is not, something is wrong with the arguments
 abbrev pub for_text : Option (List ℕ) → Option (List ℕ) → (List ℕ → Plan) → Plan

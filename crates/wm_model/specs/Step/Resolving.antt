@@ -2,49 +2,65 @@
 use Rattle.std.specs.Prelude.{ℕ, ◌+◌, ◌-◌, ◌==◌, ◌&&◌, nat_lt, Bool, true, false, not, if◌then◌else◌, List, [], ◌∷◌, ◌++◌, length, map, Option, None}
 use Rattle.std.specs.Option.{option_map_or}
 use Rattle.wm_syntax.specs.Trees.{Cond}
+use Rattle.wm_syntax.specs.declared.statement.Arg.{Arg}
 use Rattle.wm_base.specs.declared.refusal.Refusal.{Refusal}
 use Rattle.wm_decided.specs.Deciding.{decisions_in}
 use Rattle.wm_decided.specs.Keys.{columns_of_keys, meets_key}
 use Rattle.wm_decided.specs.Netted.{entries_decided, marks_of}
 use Rattle.wm_decided.specs.declared.keep.Keep.{Keep}
 use Rattle.wm_net.specs.Conflicts.{Settled}
-use Rattle.wm_outline.specs.Outline.{outline}
+use Rattle.wm_grammar.specs.declared.procedure.Procedure.TheVariants as procedures
+use Rattle.wm_outline.specs.Outline.{Outline, SpaceOutline, outline}
 use Rattle.wm_print.specs.Texts.{Answer, Fine, Done}
 use Rattle.wm_spec.specs.Lists.{Entry}
 use Rattle.wm_spec.specs.declared.record.table.Table.{Table}
 use Rattle.wm_state.specs.State.{State, Session, Workspace, Resolve, Decision, with_entries, with_space}
 use Rattle.wm_telling.specs.Sides.{sides}
 use Rattle.wm_typing.specs.Types.{mistyped_in_filter}
-use Rattle.wm_model.specs.Step.Refusing.{no_parent, no_resolve, refused_if, unless, unless_empty_period, unless_mistyped, versioning}
+use Rattle.wm_model.specs.Step.Refusing.{no_parent, no_resolve, no_workspace, refused_if, unless, unless_empty_period, unless_mistyped, versioning}
 use Rattle.wm_model.specs.Step.Counting.{durably}
 use Rattle.wm_model.specs.Step.Faulting.{unkeyed_fault}
 use Rattle.wm_model.specs.Step.Locks.{cells_of, claim_of, lock_fault}
 use Rattle.wm_model.specs.Step.Naming.{parent_in, with_named, with_table}
 use Rattle.wm_model.specs.Step.Sessions.{altered}
 use Rattle.wm_model.specs.Step.Sessions as settings
-use Rattle.wm_model.specs.Step.Undoing.{resolves, resolving_fault}
+use Rattle.wm_model.specs.Step.Given.{misfit, workspace_given}
+use Rattle.wm_model.specs.Step.Plans.{Plan, also, for_named, setting, space_named}
+use Rattle.wm_model.specs.Step.Undoing.{resolve_fault, resolves}
 
 -- this is set of a session, and nothing else changes
 abbrev pub set_of : Session → settings.Setting → State → State
 set_of session setting s = record s { sessions = altered session.name setting s.sessions }
 
+-- ---- a resolve is opened and closed
+
 -- BeginResolve opens a resolve of a workspace, which is not LIVE, for the session; another one that the session has open is closed
-abbrev pub begin_resolve : Session → List ℕ → State → State × Answer
-begin_resolve session name s =
-    with_named s name (λ w.
-    if w.number == 0 then (s, no_parent name) else unless (resolving_fault s w) s (set_of session (settings.Begin w.number) s, Fine))
+abbrev pub begin_resolve_plan : Session → List Arg → Outline → Plan
+begin_resolve_plan session args o =
+    let name = workspace_given procedures.BeginResolve args in
+    also (misfit procedures.BeginResolve args ∷ [])
+    (for_named (no_workspace name)
+    (λ x. setting (refused_if (x.number == 0) (no_parent name) ∷ resolve_fault o x ∷ []) session (settings.Begin x.number))
+    (space_named name o))
 
 -- the session that asks has a resolve of the workspace of this number open, which none has of LIVE
 abbrev pub has_open : ℕ → Session → Bool
 has_open n session = nat_lt 0 n && resolves n session
 
 -- it has none
-abbrev pub unresolved_fault : Session → Workspace → Option Refusal
-unresolved_fault session w = if has_open w.number session then None else refused_if true (no_resolve w.name)
+abbrev pub unopened_fault : Session → SpaceOutline → Option Refusal
+unopened_fault session x = refused_if (not (has_open x.number session)) (no_resolve x.fields.name)
 
 -- RollbackResolve closes it
-abbrev pub rollback_resolve : Session → List ℕ → State → State × Answer
-rollback_resolve session name s = with_named s name (λ w. unless (unresolved_fault session w) s (set_of session settings.End s, Fine))
+abbrev pub rollback_resolve_plan : Session → List Arg → Outline → Plan
+rollback_resolve_plan session args o =
+    let name = workspace_given procedures.RollbackResolve args in
+    also (misfit procedures.RollbackResolve args ∷ [])
+    (for_named (no_workspace name) (λ x. setting (unopened_fault session x ∷ []) session settings.End) (space_named name o))
+
+-- so in the lists of a state
+abbrev pub unresolved_fault : Session → Workspace → Option Refusal
+unresolved_fault session w = if has_open w.number session then None else refused_if true (no_resolve w.name)
 
 -- ---- decisions
 

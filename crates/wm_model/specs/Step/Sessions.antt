@@ -1,15 +1,14 @@
--- Who is connected, and the moment.
-use Rattle.std.specs.Prelude.{ℕ, List, [], ◌∷◌, ◌++◌, not, ◌&&◌, nat_le, nat_lt, if◌then◌else◌, length, map, is_some, Option, None, Some}
+-- What is set of sessions, and the moment.
+use Rattle.std.specs.Prelude.{ℕ, List, [], ◌∷◌, ◌++◌, not, nat_lt, if◌then◌else◌, map, Option, None, Some}
 use Rattle.std.specs.List.{filter}
 use Rattle.std.specs.Option.{option_map}
 use Rattle.std.specs.Str.{bytes_eq}
 use Rattle.wm_base.specs.Period.{Span}
 use Rattle.wm_spec.specs.declared.record.lock.LockMode.{LockMode}
 use Rattle.wm_state.specs.State as state
-use Rattle.wm_state.specs.State.{State, Session, Resolve, Decision, Difference, Latest}
+use Rattle.wm_state.specs.State.{State, Session, Resolve, Decision, Difference}
 use Rattle.wm_print.specs.Texts.{Answer, Fine}
-use Rattle.wm_model.specs.Step.Refusing.{no_session, session_there, bad_name, moment_back, most_sessions}
-use Rattle.wm_model.specs.Step.Naming.{is_name, session_of}
+use Rattle.wm_model.specs.Step.Refusing.{moment_back}
 
 -- ---- sessions
 
@@ -50,20 +49,6 @@ with_setting (Compare d) x = record x { difference = Some d }
 -- it is set of a session of this name
 abbrev pub altered : List ℕ → Setting → List Session → List Session
 altered name setting sessions = map (λ (x : Session). if bytes_eq name x.name then with_setting setting x else x) sessions
-
--- CONNECT opens a session, which stands in LIVE at what is newest, for which neither a period nor a workspace of conflicts is set, and which has
--- no resolve open, froze no workspace, locks nothing that it changes and compares no points
-abbrev pub connect : List ℕ → List ℕ → State → State × Answer
-connect name user s =
-    if is_some (session_of name s.sessions) then (s, session_there name) else
-    (if not (is_name name && is_name user) then (s, bad_name) else
-    (if nat_le 256 (length s.sessions) then (s, most_sessions) else
-    (record s { sessions = s.sessions ++ record { name = name; user = user; space = 0; stand = Latest; period = None; conflict = None; resolve = None; freezes = []; locking = None; difference = None } ∷ [] }, Fine)))
-
--- DISCONNECT ends one
-abbrev pub disconnect : List ℕ → State → State × Answer
-disconnect name s =
-    if is_some (session_of name s.sessions) then (record s { sessions = closed name s.sessions }, Fine) else (s, no_session name)
 
 -- ---- the moment
 

@@ -87,7 +87,7 @@ returns-clause-does c =
     let v = c.in_ok-entries.entries.items in
     writes_made s.image.now s.moment s.session.now s.table.now s.space.now n c.args.rows_changed c.args.changes.items (map entry_of v)
     (made_by s.image.now s.moment s.session.now s.table.now s.space.now n c.args.changes.items v c.user-user.result.now c.requires.site.rules c.counters-counters.ensures c.requires.some c.in_ok-entries.ensures c.user-user.ensures.user)
-    (record { edits = c.in_ok-edits.edits; seating = seatings.Stay; answer = answers.Done c.args.rows_changed }) c.in_ok-entries.entries c.in_ok-parts.parts.items refl (fault_by s.image.now s.session.now c.in_ok-refusal.field-0 None c.as_slice.result.now v c.in_ok-refusal.ensures c.in_default.is c.as_slice.ensures.value) (parts_by s.image.now s.session.now c.in_ok-parts.parts.items c.as_slice-3.result.now v c.in_ok-parts.ensures c.as_slice-3.ensures.value)
+    (record { edits = c.in_ok-edits.edits; seating = seatings.Stay; answer = answers.Done c.args.rows_changed }) v c.in_ok-parts.parts.items refl (fault_by s.image.now s.session.now c.in_ok-refusal.field-0 None c.as_slice.result.now v c.in_ok-refusal.ensures c.in_default.is c.as_slice.ensures.value) (parts_by s.image.now s.session.now c.in_ok-parts.parts.items c.as_slice-3.result.now v c.in_ok-parts.ensures c.as_slice-3.ensures.value)
     (record {
       some = c.requires.some;
       there = c.requires.site.there;

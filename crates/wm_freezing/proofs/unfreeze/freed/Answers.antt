@@ -1,5 +1,5 @@
 use Rattle.std.proofs.Common.{ℕ, List, [], ◌∷◌, Some, None, refl, sym, ap, ◌∙◌}
-use Rattle.wm_freezing.proofs.Faults.{told_one}
+use Rattle.wm_outcome.proofs.Told.{told_one}
 use Rattle.wm_freezing.proofs.unfreeze.freed.Goals as goal
 use Rattle.wm_freezing.specs.Freeing.{freeing}
 use Rattle.wm_ground.proofs.Bridge.{if_ok}

@@ -1,5 +1,5 @@
 use Rattle.std.proofs.Common.{[], refl, sym, ap, ◌∙◌}
-use Rattle.wm_freezing.proofs.Faults.{told_none, told_one}
+use Rattle.wm_outcome.proofs.Told.{told_none, told_one}
 use Rattle.wm_freezing.proofs.Thawing.{held_so, thawing_by}
 use Rattle.wm_freezing.proofs.unfreeze.unfreeze.Goals as goal
 use Rattle.wm_graph.specs.Parts.{parts_of}

@@ -58,5 +58,5 @@ returns-in-Some-clause-nets c = λ stays workspace family. Nothing c.answered.en
 
 pub returns-clause-nets : goal.returns-clause-nets
 returns-clause-nets c = λ stays.
-    merge_nets c.args.image.now c.args.moment c.user-user.result.now c.args.merge.family.space.now c.args.merge.family.parent.now (asked_view c.args.merge.asked) _ c.in_ok-own.own c.in_ok-gained.gained c.merge_with.result stays c.in_ok-own.ensures c.in_ok-gained.ensures
+    merge_nets c.args.image.now c.args.moment c.user-user.result.now c.args.merge.family.space.now c.args.merge.family.parent.now (asked_view c.args.merge.asked) _ c.in_ok-own.own.items c.in_ok-gained.gained.items c.merge_with.result stays c.in_ok-own.ensures c.in_ok-gained.ensures
     c.merge_with.ensures.edits

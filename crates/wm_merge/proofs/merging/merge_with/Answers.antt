@@ -55,16 +55,16 @@ returns-clause-does c = λ xs session workspace merges.
     let may = may_merge c.args.image.now c.args.family.space.now c.as_slice-own.result.now c.args.brought.own.items c.as_slice-gained.result.now c.args.brought.gained.items c.as_slice-own.ensures.value c.as_slice-gained.ensures.value c.if-not-can_merge.ensures in
     let room = room_of counter_limit _ _ (sym c.if-are_long.ensures) in
     told c.args.image.now xs c.args.moment c.done.result
-    (merge_edits (asked_view c.args.asked) (is_even_at c.args.family.space.now c.args.family.parent.now (map entry_of c.args.brought.own.items)) c.args.family.space.now.number c.args.family.parent.now.number c.args.brought.own
-    c.args.brought.gained (makings_of c.args.family.space.now.number (parts_of c.args.image.now).locks))
+    (merge_edits (asked_view c.args.asked) (is_even_at c.args.family.space.now c.args.family.parent.now (map entry_of c.args.brought.own.items)) c.args.family.space.now.number c.args.family.parent.now.number c.args.brought.own.items
+    c.args.brought.gained.items (makings_of c.args.family.space.now.number (parts_of c.args.image.now).locks))
     (freeing (asked_view c.args.asked) c.args.family.space.now.number) Fine (merge_workspace session (asked_view c.args.asked) workspace)
     (c.done.ensures.edits ∙ c.in_ok-edits.ensures
-    ∙ ap (λ (e : Bool). merge_edits (asked_view c.args.asked) e c.args.family.space.now.number c.args.family.parent.now.number c.args.brought.own c.args.brought.gained c.in_ok-makings.makings.items) even
-    ∙ ap (λ (xs : List ℕ). merge_edits (asked_view c.args.asked) (is_even_at c.args.family.space.now c.args.family.parent.now (map entry_of c.args.brought.own.items)) c.args.family.space.now.number c.args.family.parent.now.number c.args.brought.own c.args.brought.gained xs) c.in_ok-makings.ensures)
+    ∙ ap (λ (e : Bool). merge_edits (asked_view c.args.asked) e c.args.family.space.now.number c.args.family.parent.now.number c.args.brought.own.items c.args.brought.gained.items c.in_ok-makings.makings.items) even
+    ∙ ap (λ (xs : List ℕ). merge_edits (asked_view c.args.asked) (is_even_at c.args.family.space.now c.args.family.parent.now (map entry_of c.args.brought.own.items)) c.args.family.space.now.number c.args.family.parent.now.number c.args.brought.own.items c.args.brought.gained.items xs) c.in_ok-makings.ensures)
     (ap seating_view c.done.ensures.seating ∙ c.freeing.ensures) (ap answer_view c.done.ensures.answer)
-    (does_merge c.args.image.now xs c.args.moment session workspace (asked_view c.args.asked) c.args.family.space.now c.args.family.parent.now c.counters.result c.args.brought.own c.args.brought.gained merges
+    (does_merge c.args.image.now xs c.args.moment session workspace (asked_view c.args.asked) c.args.family.space.now c.args.family.parent.now c.counters.result c.args.brought.own.items c.args.brought.gained.items merges
     (idle_told (asked_view c.args.asked) c.args.family.space.now c.args.family.parent.now c.args.brought.own.items c.is_even-even.result c.as_slice-2.result.now c.in_ok-makings.makings.items _ _ even c.as_slice-2.ensures.value c.in_ok-makings.ensures c.if-is_idle.ensures)
-    (drafts_merge c.args.image.now c.args.moment xs session (asked_view c.args.asked) workspace c.args.family.space.now c.args.family.parent.now c.counters.result c.args.brought.own c.args.brought.gained merges may
+    (drafts_merge c.args.image.now c.args.moment xs session (asked_view c.args.asked) workspace c.args.family.space.now c.args.family.parent.now c.counters.result c.args.brought.own.items c.args.brought.gained.items merges may
     c.counters.ensures room.0 room.1 (makings_of c.args.family.space.now.number (parts_of c.args.image.now).locks) c.law_of_order.ensures (sym c.if-is_spent.ensures) (early c.args.moment c.requires.moment))
     (sym c.if-are_long.ensures) c.counters.ensures (sym c.if-is_spent.ensures))
 
@@ -87,5 +87,5 @@ returns-clause-edits c =
     let even = even_told c.args.family.space.now c.args.family.parent.now c.as_slice.result.now c.args.brought.own.items c.is_even-even.result c.as_slice.ensures.value c.is_even-even.ensures in
     inr
     (c.done.ensures.edits ∙ c.in_ok-edits.ensures
-    ∙ ap (λ (e : Bool). merge_edits (asked_view c.args.asked) e c.args.family.space.now.number c.args.family.parent.now.number c.args.brought.own c.args.brought.gained c.in_ok-makings.makings.items) even
-    ∙ ap (λ (xs : List ℕ). merge_edits (asked_view c.args.asked) (is_even_at c.args.family.space.now c.args.family.parent.now (map entry_of c.args.brought.own.items)) c.args.family.space.now.number c.args.family.parent.now.number c.args.brought.own c.args.brought.gained xs) c.in_ok-makings.ensures)
+    ∙ ap (λ (e : Bool). merge_edits (asked_view c.args.asked) e c.args.family.space.now.number c.args.family.parent.now.number c.args.brought.own.items c.args.brought.gained.items c.in_ok-makings.makings.items) even
+    ∙ ap (λ (xs : List ℕ). merge_edits (asked_view c.args.asked) (is_even_at c.args.family.space.now c.args.family.parent.now (map entry_of c.args.brought.own.items)) c.args.family.space.now.number c.args.family.parent.now.number c.args.brought.own.items c.args.brought.gained.items xs) c.in_ok-makings.ensures)

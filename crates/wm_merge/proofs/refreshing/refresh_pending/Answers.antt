@@ -47,4 +47,4 @@ returns-in-Some-clause-nets c = λ workspace family. Nothing c.answered.ensures.
 
 pub returns-clause-nets : goal.returns-clause-nets
 returns-clause-nets c =
-    refresh_nets c.args.image.now c.args.moment c.user-user.result.now c.args.space.now c.args.parent.now c.in_ok-entries.entries c.refresh_with.result c.in_ok-entries.ensures c.refresh_with.ensures.edits
+    refresh_nets c.args.image.now c.args.moment c.user-user.result.now c.args.space.now c.args.parent.now c.in_ok-entries.entries.items c.refresh_with.result c.in_ok-entries.ensures c.refresh_with.ensures.edits

@@ -43,10 +43,10 @@ pub returns-clause-does : goal.returns-clause-does
 returns-clause-does c = λ xs session workspace parent refreshes.
     let short = log_test c.args.space.now.log_length c.as_slice.result.now c.args.entries.items false c.as_slice.ensures.value c.if-is_long.ensures in
     let may = may_refresh c.args.image.now c.args.space.now (map key_pieces c.args.own.now) c.as_slice-2.result.now c.args.entries.items c.as_slice-2.ensures.value c.requires.own c.if-not-can_refresh.ensures in
-    told c.args.image.now xs c.args.moment c.done.result (refresh_edits c.args.space.now.number c.args.entries) Stay Fine (refresh_workspace session workspace) (c.done.ensures.edits ∙ c.in_ok-refresh_edits.ensures)
+    told c.args.image.now xs c.args.moment c.done.result (refresh_edits c.args.space.now.number c.args.entries.items) Stay Fine (refresh_workspace session workspace) (c.done.ensures.edits ∙ c.in_ok-refresh_edits.ensures)
     (ap seating_view c.done.ensures.seating) (ap answer_view c.done.ensures.answer)
-    (does_refresh c.args.image.now xs c.args.moment session workspace c.args.space.now parent c.counters.result c.args.entries refreshes
-    (drafts_refresh c.args.image.now c.args.moment xs session workspace c.args.space.now parent (map key_pieces c.args.own.now) c.counters.result c.args.entries c.law_of_order.ensures refreshes may short
+    (does_refresh c.args.image.now xs c.args.moment session workspace c.args.space.now parent c.counters.result c.args.entries.items refreshes
+    (drafts_refresh c.args.image.now c.args.moment xs session workspace c.args.space.now parent (map key_pieces c.args.own.now) c.counters.result c.args.entries.items c.law_of_order.ensures refreshes may short
     c.counters.ensures (sym c.if-is_spent.ensures) (early c.args.moment c.requires.moment))
     short c.counters.ensures (sym c.if-is_spent.ensures))
 

@@ -25,8 +25,7 @@ returns-then-not-has_open-clause-does c = λ xs among.
 
 pub returns-then-is_empty-clause-does : goal.returns-then-is_empty-clause-does
 returns-then-is_empty-clause-does c =
-    sets_open c.args.image.now c.args.moment c.args.session.now c.setting.result (Set c.args.session.now.name settings.End) (commit_resolve c.args.session.now c.args.name.now) c.setting.ensures.edits c.setting.ensures.seating
-    c.setting.ensures.answer
+    sets_open c.args.image.now c.args.moment c.args.session.now c.setting.result (Set c.args.session.now.name settings.End) (commit_resolve c.args.session.now c.args.name.now) c.setting.ensures
     (λ xs. commit_empty c.args.image.now xs c.args.moment c.args.session.now c.args.name.now c.in-Some.space.now (record { rules = c.requires.rules; found = sym c.in-Some.ensures }) (sym c.has_open.ensures ∙ c.if-not-has_open.false)
     (sym c.decisions_of-decisions.ensures ∙ nothing_listed c.decisions_of-decisions.result.now (sym c.is_empty.ensures ∙ c.if-is_empty.true)))
 

@@ -4,7 +4,7 @@ use Rattle.std.specs.Option.{option_copied}
 use Rattle.wm_syntax.specs.Views.{filter_view}
 use Rattle.wm_model.specs.Planning.{Stay}
 use Rattle.wm_model.specs.Step.{empty_period, no_resolve, no_workspace}
-use Rattle.wm_model.proofs.RollingLine.{named_numbered}
+use Rattle.wm_model.proofs.Recorded.{named_numbered}
 use Rattle.wm_plan.proofs.Planning.{told}
 use Rattle.wm_plan.specs.Planning.{DoesIt}
 use Rattle.wm_plan.specs.Views.{answer_view, seating_view}

@@ -1,4 +1,4 @@
-use Rattle.std.proofs.Common.{[], length, None, Some, refl, sym, ap, ◌∙◌}
+use Rattle.std.proofs.Common.{[], None, Some, refl, sym, ap, ◌∙◌}
 use Rattle.wm_base.specs.declared.refusal.FormRefusal.TheVariants.{Wm013, Wm014}
 use Rattle.wm_base.specs.declared.refusal.Refusal.TheVariants as refusals
 use Rattle.wm_base.specs.declared.refusal.SpaceRefusal.TheVariants.{Wm020, Wm022}

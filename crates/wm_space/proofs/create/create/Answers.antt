@@ -1,39 +1,55 @@
-use Rattle.std.proofs.Common.{[], sym, ap, ◌∙◌}
-use Rattle.wm_model.proofs.Creating.{create_misnamed, create_there, create_misshaped, create_full}
-use Rattle.wm_model.specs.Planning.{Stay, named}
-use Rattle.wm_model.specs.Step.{create, table_there, most_tables}
-use Rattle.wm_print.specs.Texts.{Refused}
-use Rattle.wm_space.proofs.Creating.{may_make}
-use Rattle.wm_plan.proofs.Planning.{told, some_of}
-use Rattle.wm_space.proofs.SavepointPlans.{is_there, is_gone}
-use Rattle.wm_plan.specs.Views.{answer_view, seating_view}
+use Rattle.std.proofs.Common.{◌≡◌, ℕ, Bool, true, false, List, [], ◌∷◌, Option, None, Some, refl, sym, ap, ◌∙◌, codes}
+use Rattle.wm_base.specs.declared.refusal.Refusal.{Refusal}
+use Rattle.wm_ground.proofs.Bridge.{if_ok}
+use Rattle.wm_ground.specs.Grounds.{outline_on}
+use Rattle.wm_ground.specs.Outcomes.{outcome_view}
+use Rattle.wm_making.specs.Creating.{table_of}
+use Rattle.wm_model.specs.Seating.{Stay}
+use Rattle.wm_model.specs.Step.{Answer, Outcome, Plan, at_its_end, doing, first_fault, is_full, is_spent, most_tables, refusal_of, refused_if, spent}
+use Rattle.wm_outcome.proofs.Faults.{at_if, least_first}
+use Rattle.wm_outcome.proofs.Named.{InOrder, told_first}
+use Rattle.wm_outline.specs.Outline.{Outline}
+use Rattle.wm_print.specs.Texts.{Fine}
+use Rattle.wm_spec.specs.declared.record.table.Table.{Table}
+use Rattle.wm_state.specs.State.{next_table}
+use Rattle.wm_state.specs.declared.edit.Edit.TheVariants as edits
+use Rattle.wm_syntax.specs.declared.statement.CreateItem.{CreateItem}
 use Rattle.wm_space.proofs.create.create.Goals as goal
 
-pub returns-in-Some-clause-does : goal.returns-in-Some-clause-does
-returns-in-Some-clause-does c = λ xs.
-    told c.args.image.now xs c.args.moment c.answered.result [] Stay (Refused c.in-Some.refusal) (create c.args.name.now c.args.items.now) c.answered.ensures.edits (ap seating_view c.answered.ensures.seating)
-    (ap answer_view c.answered.ensures.answer)
-    (create_misnamed c.args.image.now xs c.args.moment c.args.name.now c.args.items.now c.in-Some.refusal c.requires.rules (sym c.in_ok-refusal.ensures ∙ c.in-Some.is))
+abbrev plan : List ℕ → List CreateItem → Outline → Plan
+plan name items o = doing (refused_if (is_full o.tables) most_tables ∷ spent o ∷ []) (edits.Create (table_of (next_table o.tables) name items) ∷ [])
 
-pub returns-then-is_some-clause-does : goal.returns-then-is_some-clause-does
-returns-then-is_some-clause-does c = λ xs.
-    let there = some_of (named c.args.image.now c.args.name.now) (is_there c.table.result (named c.args.image.now c.args.name.now) (c.table.ensures ∙ ap (named c.args.image.now) c.as_bytes.ensures) c.if-is_some.ensures) in
-    told c.args.image.now xs c.args.moment c.answered-then-is_some.result [] Stay (table_there c.args.name.now) (create c.args.name.now c.args.items.now) c.answered-then-is_some.ensures.edits
-    (ap seating_view c.answered-then-is_some.ensures.seating) (ap answer_view c.answered-then-is_some.ensures.answer ∙ c.table_there.ensures ∙ ap table_there c.in_ok-copy.ensures)
-    (create_there c.args.image.now xs c.args.moment c.args.name.now c.args.items.now there.0 c.requires.rules (sym c.in_ok-refusal.ensures ∙ c.in_default.is) there.1)
+in_order : (o : Outline) → InOrder (refused_if (is_full o.tables) most_tables ∷ spent o ∷ [])
+in_order o = least_first (46 ∷ 49 ∷ []) _ (at_if 46 (is_full o.tables) most_tables refl, (at_if 49 (is_spent o) (at_its_end (codes "WORK")) refl, tt)) refl
 
-pub returns-in-Some-2-clause-does : goal.returns-in-Some-2-clause-does
-returns-in-Some-2-clause-does c = λ xs.
-    told c.args.image.now xs c.args.moment c.answered-in-Some-2.result [] Stay (Refused c.in-Some-2.refusal) (create c.args.name.now c.args.items.now) c.answered-in-Some-2.ensures.edits
-    (ap seating_view c.answered-in-Some-2.ensures.seating) (ap answer_view c.answered-in-Some-2.ensures.answer)
-    (create_misshaped c.args.image.now xs c.args.moment c.args.name.now c.args.items.now c.in-Some-2.refusal c.requires.rules (sym c.in_ok-refusal.ensures ∙ c.in_default.is)
-    (is_gone c.table.result (named c.args.image.now c.args.name.now) (c.table.ensures ∙ ap (named c.args.image.now) c.as_bytes.ensures) c.if-is_some.ensures) (sym c.in_ok-refusal-2.ensures ∙ c.in-Some-2.is))
+full : (b : Bool) (g : Option Refusal) → b ≡ true → refusal_of most_tables ≡ first_fault (refused_if b most_tables ∷ g ∷ [])
+full true g h = refl
+full false g h = absurd (cc)
 
-pub returns-in_default-next_number-clause-does : goal.returns-in_default-next_number-clause-does
-returns-in_default-next_number-clause-does c = λ xs.
-    told c.args.image.now xs c.args.moment c.answered-in_default-next_number.result [] Stay most_tables (create c.args.name.now c.args.items.now) c.answered-in_default-next_number.ensures.edits
-    (ap seating_view c.answered-in_default-next_number.ensures.seating) (ap answer_view c.answered-in_default-next_number.ensures.answer ∙ c.most_tables.ensures)
-    (create_full c.args.image.now xs c.args.moment c.args.name.now c.args.items.now c.requires.rules
-    (may_make c.args.image.now c.args.name.now c.args.items.now (sym c.in_ok-refusal.ensures ∙ c.in_default.is)
-    (is_gone c.table.result (named c.args.image.now c.args.name.now) (c.table.ensures ∙ ap (named c.args.image.now) c.as_bytes.ensures) c.if-is_some.ensures) (sym c.in_ok-refusal-2.ensures ∙ c.in_default-2.is))
-    c.in_default-next_number.ensures.full)
+room : (b : Bool) (f g : Option Refusal) → b ≡ false → f ≡ g → f ≡ first_fault (refused_if b most_tables ∷ g ∷ [])
+room true f g h is = absurd (cc)
+room false f None h is = is
+room false f (Some r) h is = is
+
+pub returns-in_default : goal.returns-in_default
+returns-in_default c =
+    let o = outline_on c.args.ground in
+    told_first (plan c.args.name.now c.args.items.now o) (refusal_of most_tables) (outcome_view c.answered.result) (in_order o) (full (is_full o.tables) (spent o) c.in_default.ensures.full)
+    (c.answered.ensures ∙ ap (λ (a : Answer). let q : Outcome = record { edits = []; seating = Stay; answer = a } in q) c.most_tables.ensures)
+
+pub returns-in-Some-2 : goal.returns-in-Some-2
+returns-in-Some-2 c =
+    let o = outline_on c.args.ground in
+    told_first (plan c.args.name.now c.args.items.now o) (Some c.in-Some-2.refusal) (outcome_view c.refused.result) (in_order o)
+    (room (is_full o.tables) (Some c.in-Some-2.refusal) (spent o) c.in-Some.ensures.room.0 (sym c.in-Some-2.is ∙ c.in_ok-refusal.ensures)) c.refused.ensures
+
+pub returns : goal.returns
+returns c =
+    let o = outline_on c.args.ground in
+    if_ok c.done.result _ _
+    (λ p is.
+    told_first (plan c.args.name.now c.args.items.now o) None (outcome_view p) (in_order o) (room (is_full o.tables) None (spent o) c.in-Some.ensures.room.0 (sym c.in_default-2.is ∙ c.in_ok-refusal.ensures))
+    (is
+    ∙ ap (λ (t : Table). let q : Outcome = record { edits = edits.Create t ∷ []; seating = Stay; answer = Fine } in q)
+    (c.in_ok-table.ensures.table ∙ (λ i. table_of (c.in-Some.ensures.room.1 i) (c.in_ok-copy.ensures i) c.args.items.now))))
+    c.done.ensures

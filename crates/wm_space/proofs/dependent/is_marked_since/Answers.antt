@@ -5,13 +5,12 @@ use Rattle.wm_graph.specs.Parts.{as_mark}
 use Rattle.wm_index.specs.Kinds.{kind_at}
 use Rattle.wm_spec.specs.declared.record.Record.{Record}
 use Rattle.wm_spec.specs.declared.record.trace.Trace.{Trace}
-use Rattle.wm_space.proofs.Marks.{any_marked, marked-next}
+use Rattle.wm_space.proofs.Marks.{any_since, marked-next}
 use Rattle.wm_space.proofs.dependent.is_marked_since.Goals as goal
 
 pub loop-id-init : goal.loop-id-init
 loop-id-init c =
-    let test = λ (m : Trace). nat_le c.args.place m.place in
-    ap (λ (ids : List ℕ). list_any test (kind_at as_mark c.args.image.now ids)) c.marks_in-id-items.ensures ∙ any_marked test c.args.space c.args.image.now c.law_of_order.ensures
+    ap (λ (ids : List ℕ). list_any (λ (m : Trace). nat_le c.args.place m.place) (kind_at as_mark c.args.image.now ids)) c.marks_in-id-items.ensures ∙ any_since c.args.place c.args.space.now.number c.args.image.now c.law_of_order.ensures
 
 pub loop-id-preserved : goal.loop-id-preserved
 loop-id-preserved c =

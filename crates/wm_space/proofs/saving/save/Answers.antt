@@ -1,29 +1,28 @@
-use Rattle.std.proofs.Common.{[], refl, sym, codes}
-use Rattle.wm_model.proofs.SavingLine.{save_spent, does_save}
-use Rattle.wm_model.specs.Planning.{Stay}
-use Rattle.wm_model.specs.Step.{create_savepoint, at_its_end}
+use Rattle.std.proofs.Common.{[], ◌∷◌, None, Some, sym, ◌∙◌}
+use Rattle.wm_graph.specs.Parts.{parts_of}
+use Rattle.wm_ground.proofs.Bridge.{if_ok}
+use Rattle.wm_ground.specs.Grounds.{outline_on}
+use Rattle.wm_ground.specs.Outcomes.{outcome_view}
+use Rattle.wm_model.specs.Seating.{Stay}
+use Rattle.wm_model.specs.Step.{Outcome, saving}
+use Rattle.wm_outcome.proofs.Named.{told_first}
+use Rattle.wm_outcome.proofs.Saving.{saving_order}
+use Rattle.wm_outline.specs.Outline.{outline_by}
+use Rattle.wm_print.specs.Texts.{Fine}
 use Rattle.wm_state.specs.declared.edit.Edit.TheVariants as edits
-use Rattle.wm_space.proofs.Ended.{told_ended}
-use Rattle.wm_plan.proofs.Planning.{told, early, forks_edit, never_idle}
-use Rattle.wm_space.proofs.SavepointPlans.{saves_edit}
 use Rattle.wm_space.proofs.saving.save.Goals as goal
 
-pub returns-then-is_spent-clause-does : goal.returns-then-is_spent-clause-does
-returns-then-is_spent-clause-does c =
-    told_ended c.ended.result (codes "WORK") _ c.ended.ensures.edits c.ended.ensures.seating c.ended.ensures.answer
-    (λ p edits seats says xs workspace saves.
-    told c.args.image.now xs c.args.moment p [] Stay (at_its_end (codes "WORK")) (create_savepoint workspace c.args.name) edits seats says
-    (save_spent c.args.image.now xs c.args.moment workspace c.args.name c.args.space.now c.counters.result (record { saves = saves; room = c.requires.room; places = c.requires.places }) c.counters.ensures (sym c.if-is_spent.ensures)))
+pub returns-in-Some : goal.returns-in-Some
+returns-in-Some c =
+    let o = outline_on c.args.ground in
+    let x = outline_by (parts_of c.args.ground.image.now) c.args.space.now in
+    told_first (saving c.args.name.now o x) (Some c.in-Some.refusal) (outcome_view c.refused.result) (saving_order c.args.name.now o x) (sym c.in-Some.is ∙ c.in_ok-refusal.ensures) c.refused.ensures
 
-pub returns-clause-does : goal.returns-clause-does
-returns-clause-does c =
-    saves_edit c.args.image.now c.args.moment c.editing.result c.args.name c.args.space.now c.editing.ensures.edits c.editing.ensures.seating c.editing.ensures.answer
-    (λ xs workspace saves.
-    does_save c.args.image.now xs c.args.moment workspace c.args.name c.args.space.now c.counters.result (record { saves = saves; room = c.requires.room; places = c.requires.places }) c.counters.ensures (sym c.if-is_spent.ensures)
-    (early c.args.moment c.requires.moment))
-
-pub returns-clause-idle : goal.returns-clause-idle
-returns-clause-idle c = never_idle c.editing.result c.editing.ensures.answer
-
-pub returns-clause-few : goal.returns-clause-few
-returns-clause-few c = forks_edit c.editing.result (edits.Save c.args.space.now.number c.args.name) c.editing.ensures.edits refl
+pub returns-in_ok-name-in-None : goal.returns-in_ok-name-in-None
+returns-in_ok-name-in-None c =
+    let o = outline_on c.args.ground in
+    let x = outline_by (parts_of c.args.ground.image.now) c.args.space.now in
+    if_ok c.done.result _ _
+    (λ p is. told_first (saving c.args.name.now o x) None (outcome_view p) (saving_order c.args.name.now o x) (sym c.in-None.is ∙ c.in_ok-refusal.ensures)
+    (is ∙ (λ i. let q : Outcome = record { edits = edits.Save c.args.space.now.number (c.in_ok-name-in-None.ensures i) ∷ []; seating = Stay; answer = Fine } in q)))
+    c.done.ensures
