@@ -14,3 +14,5 @@ pub mod Sounding
 pub mod Causes
 pub mod NetLines
 pub mod Pages
+pub mod Calls
+pub mod Performing

@@ -1,7 +1,6 @@
 -- Lines that refresh a workspace, or merge it and let it be: what they are is left by SYSDATE, and what others are not.
 use Rattle.std.proofs.Common.{◌≡◌, ℕ, ◌+◌, ◌&&◌, Bool, true, false, cond, if◌then◌else◌, List, [], ◌∷◌, map, length, Option, Some, None, unwrap_or, refl, ap, ◌∙◌}
 use Rattle.std.proofs.lemmas.List.{length-map}
-use Rattle.std.proofs.lemmas.Option.{same_Some, none-some}
 use Rattle.std.specs.Option.{option_map}
 use Rattle.wm_syntax.specs.Trees.{Line}
 use Rattle.wm_syntax.specs.Trees as trees
@@ -17,16 +16,9 @@ use Rattle.wm_grammar.specs.declared.procedure.Parameter.TheVariants as paramete
 use Rattle.wm_grammar.specs.declared.procedure.Procedure.{Procedure}
 use Rattle.wm_grammar.specs.declared.procedure.Procedure.TheVariants as procedures
 use Rattle.wm_model.specs.Step.{timed_line}
-use Rattle.wm_spending.specs.Nets.{Net, merge_of, refresh_of}
+use Rattle.wm_spending.specs.Nets.{merge_of, refresh_of}
 use Rattle.wm_timed.specs.Timed.{timed_arg, timed_value}
 use Rattle.wm_engine.specs.NetLines.{nets_call, nets_of_line}
-
--- ---- which workspace
-
--- a merge that is asked for removes nothing
-pub merges_alone : (removes : Bool) (given net : Net) → (if removes then None else Some given) ≡ Some net → (removes ≡ false) × (given ≡ net)
-merges_alone true given net e = absurd (none-some net e)
-merges_alone false given net e = (refl, same_Some given net e)
 
 -- ---- arguments with the moment in the place of SYSDATE
 

@@ -1,5 +1,5 @@
 -- What a reply that tells a refusal says of the line.
-use Rattle.std.proofs.Common.{◌≡◌, true, List, ℕ, Option, Some, None, refl, ap, ◌∙◌}
+use Rattle.std.proofs.Common.{◌≡◌, true, List, ℕ, Option, refl, ap, ◌∙◌}
 use Rattle.std.specs.Prelude.{IfSome, OnSome}
 use Rattle.wm_base.specs.declared.refusal.Refusal.{Refusal}
 use Rattle.wm_spec.specs.declared.record.stored.Stored.{Stored}
@@ -8,7 +8,7 @@ use Rattle.wm_store.specs.declared.store.Store.{Store}
 use Rattle.wm_print.specs.Texts.{Answer, Nothing, Fine, Done, Listing, Refused, answer_text}
 use Rattle.wm_plan.specs.Idle.{is_idle}
 use Rattle.wm_model.specs.Step.Refusing.{refusal_of}
-use Rattle.wm_engine.specs.Working.{Engaged}
+use Rattle.wm_engine.specs.Working.{Engaged, engaged}
 
 -- what an idle line leaves a refused one leaves
 pub of_refusal : (T : Type 0) (answer : Answer) (refused : Option Refusal) → refused ≡ refusal_of answer → (is_idle answer ≡ true → T) → OnSome refused T
@@ -26,14 +26,7 @@ tells_refusal (Done count) refused bytes is text = rw is tt
 tells_refusal (Listing rows) refused bytes is text = rw is tt
 tells_refusal (Refused refusal) refused bytes is text = rw is text
 
-pub on_some_weaker : (P Q : Type 0) (refused : Option Refusal) → (P → Q) → OnSome refused P → OnSome refused Q
-on_some_weaker P Q None to given = tt
-on_some_weaker P Q (Some refusal) to given = to given
-
 -- engines of the same store, records, sessions and moment
-abbrev engaged : Store → List Stored → List Session → ℕ → Engaged
-engaged store records sessions moment = record { store = store; records = records; sessions = sessions; moment = moment }
-
 pub engaged_same : (a b : Engaged) → a.store ≡ b.store → a.records ≡ b.records → a.sessions ≡ b.sessions → a.moment ≡ b.moment → a ≡ b
 engaged_same a b store records sessions moment =
     ap (λ (s : Store). engaged s a.records a.sessions a.moment) store

@@ -3,6 +3,8 @@ pub mod Keeping
 pub mod Timely
 pub mod Cause
 pub mod ForkLines
+pub mod Lines
 pub mod NetLines
 pub mod Kinds
 pub mod Pages
+pub mod Performing

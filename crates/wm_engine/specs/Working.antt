@@ -30,6 +30,10 @@ pub record Engaged : Type 0 where
   pub sessions : List Session
   pub moment : ℕ
 
+-- an engine of these
+abbrev pub engaged : Store → List Stored → List Session → ℕ → Engaged
+engaged store records sessions moment = record { store = store; records = records; sessions = sessions; moment = moment }
+
 -- the file holds records that stand for the state, and what a store keeps of it is lawful
 pub record FileStands (file : List ℕ) (s : State) : Type 0 where
   pub records : List Stored

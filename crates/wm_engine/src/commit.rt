@@ -1,13 +1,11 @@
 //! What a line changes, committed to the store.
-ghost use Rattle.std.specs.Prelude.{◌≡◌, ◌≤◌, ◌+◌, ◌*◌, ◌⊎◌, ℕ, List, [], length, OnOk, IsErrOf};
-ghost use Rattle.wm_engine.specs.Cause.{LineCause};
+ghost use Rattle.std.specs.Prelude.{◌≡◌, ◌+◌, ◌*◌, ◌⊎◌, ℕ, List, [], length, OnOk};
+ghost use Rattle.wm_engine.specs.Lines.{LineFaults};
 ghost use Rattle.wm_engine.specs.Pages.{ChangesPages};
 ghost use Rattle.wm_engine.specs.Working.{HoldsSorted, KeepsOver};
-ghost use Rattle.wm_engine.specs.declared.fault.LineFault.TheVariants as faults;
 ghost use Rattle.wm_spec.specs.Records.{AreChanges};
 ghost use Rattle.wm_spec.specs.declared.record.stored.Stored.{Stored};
 ghost use Rattle.wm_state.specs.ById.{applied};
-ghost use Rattle.wm_station.specs.Cause.{Rises};
 ghost use Rattle.wm_station.specs.History.{now};
 ghost use Rattle.wm_station.specs.Moments.{Ended};
 ghost use Rattle.wm_store.specs.Spelled.{FitPages};
@@ -39,11 +37,7 @@ pub fn commit<P: Station>(
     // Of the pages behind page 0, at most two for each record that is other than it was, and two more, are other than they were.
     ensures pages { P.tells → (rs : List Stored) → KeepsOver store.old rs (P.history station.old) → (ids : List ℕ) → ChangesOnly ids rs batch.now.changes → OnOk result (ChangesPages store.new (2 * length ids + 2) (now (P.history station.old)) (now (P.history station.new))) }
     ensures same_store { batch.now.changes ≡ [] → OnOk result (store.new ≡ store.old) }
-    ensures later { P.disk_faults station.old ≤ P.disk_faults station.new }
-    ensures disk { IsErrOf result faults.Disk → Rises (P.disk_faults station.old) (P.disk_faults station.new) }
-    ensures cause { LineCause (P.disk_faults station.old) (P.disk_faults station.new) result }
-    ensures say_quiet { P.say_faults station.new ≡ P.say_faults station.old }
-    ensures unchanged { P.tells → IsErrOf result faults.Changed → ⊥ }
+    ensures faults { LineFaults P.Station station.old station.new result }
 {
     if batch.changes.as_slice().is_empty() {
         return Ok(());

@@ -1,34 +1,19 @@
 //! The state between two lines, and what a line does to it.
-ghost use Rattle.std.specs.Prelude.{◌≡◌, ℕ, ◌<◌, ◌≤◌, ◌⊎◌, ◌+◌, ◌*◌, Some, true, false, OnOk, OnSome, IfOk, IfErr, IfSome, IsErrOf};
+ghost use Rattle.std.specs.Prelude.{◌≡◌, ◌<◌, ◌≤◌, ◌⊎◌, true, false, OnOk, IfOk, IfErr, IsErrOf};
+ghost use Rattle.wm_base.specs.declared.instant.TheConstants.{END};
+ghost use Rattle.wm_engine.specs.Lines.{LineDone, LineFaults, LineKeeps};
+ghost use Rattle.wm_engine.specs.Working.{FileStands, HoldsSorted, LeavesAlone, StandsFor, WorksOver, Tells};
 ghost use Rattle.wm_faults.specs.declared.fault.MakeFault.TheVariants as making;
 ghost use Rattle.wm_faults.specs.declared.fault.OpenFault.TheVariants as opening;
-ghost use Rattle.wm_base.specs.declared.instant.TheConstants.{END};
-ghost use Rattle.wm_engine.specs.Cause.{LineCause};
-ghost use Rattle.wm_engine.specs.ForkLines.{is_fork};
-ghost use Rattle.wm_engine.specs.NetLines.{nets_into};
-ghost use Rattle.wm_engine.specs.Kinds.{kind_of};
-ghost use Rattle.wm_engine.specs.Pages.{ChangesPages};
-ghost use Rattle.wm_plan.specs.Idle.{is_idle};
-ghost use Rattle.wm_grammar.specs.Parsed.{parsed};
-ghost use Rattle.wm_engine.specs.Working.{FileStands, HoldsSorted, IsSound, LeavesAlone, StandsFor, WorksOver, Tells};
-ghost use Rattle.wm_model.specs.Step.Refusing.{refusal_of};
-ghost use Rattle.wm_engine.specs.declared.fault.LineFault.TheVariants as faults;
-ghost use Rattle.wm_prices.specs.Prices.{ChangesAtMost};
-ghost use Rattle.wm_spending.specs.Nets.{Net};
-ghost use Rattle.wm_spending.specs.Stretches.{going_count, stretch_count};
-ghost use Rattle.wm_state.specs.Drafts.{ChangesFew};
-ghost use Rattle.wm_state.specs.State.{State, begin, fresh};
-ghost use Rattle.wm_model.specs.Step.{step, answer_text};
-ghost use Rattle.wm_page.specs.Cause.{MakeCause, OpenCause};
-ghost use Rattle.wm_print.specs.Texts.{Refused};
-ghost use Rattle.wm_station.specs.Cause.{Rises};
-ghost use Rattle.wm_station.specs.History.{now, said, Leaves, Synced};
-ghost use Rattle.wm_journal.specs.Disk.{is_made};
-ghost use Rattle.wm_journal.specs.Store.{Settles};
-ghost use Rattle.wm_store.specs.Opened.{HoldsAs};
 ghost use Rattle.wm_graph.specs.Parts.{parts_of};
 ghost use Rattle.wm_graph.specs.Rules.{keep_rules};
-ghost use Rattle.wm_station.specs.Moments.{During, Ended, Holds};
+ghost use Rattle.wm_journal.specs.Disk.{is_made};
+ghost use Rattle.wm_journal.specs.Store.{Settles};
+ghost use Rattle.wm_page.specs.Cause.{MakeCause, OpenCause};
+ghost use Rattle.wm_state.specs.State.{State, begin, fresh};
+ghost use Rattle.wm_station.specs.History.{now, said, Leaves, Synced};
+ghost use Rattle.wm_station.specs.Moments.{During, Holds};
+ghost use Rattle.wm_store.specs.Opened.{HoldsAs};
 
 use crate::fault::LineFault;
 use crate::keep::run_line;
@@ -80,8 +65,6 @@ impl Engine {
         // A store that is there is never touched, whatever the answer.
         ensures kept { P.tells → is_made (now (P.history station.old)) ≡ true → P.history station.new ≡ P.history station.old }
         ensures quiet { P.tells → said (P.history station.new) ≡ said (P.history station.old) }
-        ensures later { P.disk_faults station.old ≤ P.disk_faults station.new }
-        ensures disk { IsErrOf result making.Disk → Rises (P.disk_faults station.old) (P.disk_faults station.new) }
         ensures cause { MakeCause (P.disk_faults station.old) (P.disk_faults station.new) result }
         ensures say_quiet { P.say_faults station.new ≡ P.say_faults station.old }
     {
@@ -116,8 +99,6 @@ impl Engine {
         ensures settles { P.tells → Settles (P.history station.old) (P.history station.new) (HoldsAs (now (P.history station.old))) }
         // One that is no store, or whose page 0 is short, of another format or has no journal in order, was only synced.
         ensures synced { P.tells → IfErr result (λ e. LeavesAlone e → P.history station.new ≡ Synced (P.history station.old)) }
-        ensures later { P.disk_faults station.old ≤ P.disk_faults station.new }
-        ensures disk { IsErrOf result opening.Disk → Rises (P.disk_faults station.old) (P.disk_faults station.new) }
         ensures cause { OpenCause (P.disk_faults station.old) (P.disk_faults station.new) result }
         ensures say_quiet { P.say_faults station.new ≡ P.say_faults station.old }
     {
@@ -154,44 +135,9 @@ impl Engine {
         line: &[u8],
     ) -> Result<Reply, LineFault>
         requires works { P.tells → WorksOver self.old (P.history station.old) }
-        ensures answered { IfOk result (λ reply. (s : State) → StandsFor self.old s → StandsFor self.new (step s line.now).0 × (reply.bytes ≡ answer_text (step s line.now).1)) }
-        ensures kind { IfOk result (λ reply. (s : State) → StandsFor self.old s → reply.kind ≡ kind_of (step s line.now).1) }
-        ensures refused { IfOk result (λ reply. (s : State) → StandsFor self.old s → reply.refused ≡ refusal_of (step s line.now).1) }
-        // Where it is refused the bytes tell the refusal, the engine is as it was, and the station did nothing: whatever the records
-        // are, also those of a store that stands for no state.
-        ensures refusal { IfOk result (λ reply. IfSome reply.refused (λ refusal. reply.bytes ≡ answer_text (Refused refusal))) }
-        ensures unmoved { IfOk result (λ reply. OnSome reply.refused (self.new ≡ self.old)) }
-        ensures untouched { P.tells → IfOk result (λ reply. OnSome reply.refused (P.history station.new ≡ P.history station.old)) }
-        ensures works { P.tells → OnOk result (WorksOver self.new (P.history station.new)) }
-        ensures rules { OnOk result (keep_rules (parts_of self.new.records) ≡ true) }
-        // A line that makes a savepoint or a workspace changes few records, and none of a row, a piece, a touch or an entry of a log.
-        ensures few { is_fork (parsed line.now) ≡ true → OnOk result (ChangesFew self.old.records self.new.records) }
-        // Such a line leaves the pages of the file as they were but for 14 at most, and page 0.
-        ensures few_pages { P.tells → is_fork (parsed line.now) ≡ true → OnOk result (ChangesPages self.new.store 14 (now (P.history station.old)) (now (P.history station.new))) }
-        // Of the pages behind page 0 that the store then has, at most two for each record that the line changes, and two more, are other
-        // than they were.
-        ensures pages { P.tells → (n : ℕ) → OnOk result (ChangesAtMost n self.old.records self.new.records → ChangesPages self.new.store (2 * n + 2) (now (P.history station.old)) (now (P.history station.new))) }
-        // A line that changes no record writes nothing, and syncs nothing.
-        ensures still { P.tells → OnOk result (ChangesAtMost 0 self.old.records self.new.records → P.history station.new ≡ P.history station.old) }
-        // A refresh, or a merge that removes nothing, changes eight records at most, eight for each stretch of what is own or pending, each mark of
-        // the workspace, and, where it is merged, each lock there.
-        ensures net { (net : Net) → nets_into (parsed line.now) ≡ Some net → (s : State) → StandsFor self.old s → OnOk result (ChangesAtMost (8 + 8 * stretch_count s net.workspace + going_count self.old.records net) self.old.records self.new.records) }
-        // A line that is refused, that reads, that changes no row, or that says nothing changes no record and no session, and leaves the moment.
-        ensures idle { (s : State) → StandsFor self.old s → is_idle (step s line.now).1 ≡ true → OnOk result ((self.new.records ≡ self.old.records) × (self.new.sessions ≡ self.old.sessions) × (self.new.moment ≡ self.old.moment)) }
-        // Such a line writes nothing, and syncs nothing.
-        ensures unwritten { P.tells → (s : State) → StandsFor self.old s → is_idle (step s line.now).1 ≡ true → P.history station.new ≡ P.history station.old }
-        // Nor does any line that counts no work change a record, write, or sync: one that moves a session or the moment alone.
-        ensures workless { (s : State) → StandsFor self.old s → (step s line.now).0.durable.work ≡ s.durable.work → OnOk result (self.new.records ≡ self.old.records) }
-        ensures workless_unwritten { P.tells → (s : State) → StandsFor self.old s → (step s line.now).0.durable.work ≡ s.durable.work → P.history station.new ≡ P.history station.old }
-        // A crash at any moment of the call, and a read after it, finds a file that stands for the state before the line or after it.
-        ensures any_moment { P.tells → (s : State) → StandsFor self.old s → Ended (P.history station.old) (P.history station.new) (λ file. FileStands file s ⊎ FileStands file (step s line.now).0) }
-        // Whatever the records stand for, the file stays a store whose records keep the rules, where the engine's do.
-        ensures sound { P.tells → keep_rules (parts_of self.old.records) ≡ true → Ended (P.history station.old) (P.history station.new) IsSound }
-        ensures later { P.disk_faults station.old ≤ P.disk_faults station.new }
-        ensures disk { IsErrOf result faults.Disk → Rises (P.disk_faults station.old) (P.disk_faults station.new) }
-        ensures cause { LineCause (P.disk_faults station.old) (P.disk_faults station.new) result }
-        ensures say_quiet { P.say_faults station.new ≡ P.say_faults station.old }
-        ensures unchanged { P.tells → IsErrOf result faults.Changed → ⊥ }
+        ensures done { IfOk result (LineDone P.tells line.now self.old self.new (P.history station.old) (P.history station.new)) }
+        ensures keeps { LineKeeps P.tells line.now self.old (P.history station.old) (P.history station.new) }
+        ensures faults { LineFaults P.Station station.old station.new result }
     {
         let Some(mut image) = self.image.take() else {
             return Err(LineFault::Memory);

@@ -1,5 +1,5 @@
 -- What ends a run while it answers a line is no fault of the source, and not the length of the script.
-use Rattle.std.proofs.Common.{◌≡◌, ◌∙◌, Result, Ok, Err, subst, sym}
+use Rattle.std.proofs.Common.{◌≡◌, Result, Ok, Err, subst, sym}
 use Rattle.std.specs.Prelude.{IfErr, IsErrOf}
 use Rattle.wm_host.specs.declared.stop.Stop.{Stop}
 use Rattle.wm_host.specs.declared.stop.Stop.TheVariants.{SourceFault, SayFault, DiskFault, NotStore, Damaged, Exists, InputLimit, Memory, Changed}
@@ -17,7 +17,7 @@ not_of_limit (Err stop) answering is = let same : stop ≡ InputLimit = cc in su
 pub handed_on : {T : Type 0} (result : Result T Stop) (stop : Stop) → (y : Stop) × (result ≡ Err y) × (y ≡ stop) → IsOfAnswers stop → IfErr result IsOfAnswers
 handed_on result stop handed answering = rw handed.1 (subst IsOfAnswers (sym handed.2) answering)
 
--- what ends a run while it runs a line ends it while it answers one, and is no fault of the answers
+-- what ends a run while it runs a line ends it while it answers one
 pub running_answers : (stop : Stop) → IsOfRunning stop → IsOfAnswers stop
 running_answers SourceFault of = of
 running_answers SayFault of = absurd of
@@ -28,11 +28,6 @@ running_answers Exists of = of
 running_answers InputLimit of = of
 running_answers Memory of = tt
 running_answers Changed of = tt
-
-pub not_of_saying : {T : Type 0} (result : Result T Stop) (stop : Stop) → (y : Stop) × (result ≡ Err y) × (y ≡ stop) → IsOfRunning stop → IsErrOf result SayFault → ⊥
-not_of_saying {T} result stop handed of is = subst IsOfRunning (sym handed.2 ∙ same (sym handed.1 ∙ is)) of where
-  same : {a b : Stop} → ◌≡◌ {A = Result T Stop} (Err a) (Err b) → a ≡ b
-  same e = cc
 
 -- and so does what ends it while it says something, which is no fault of the disk
 pub saying_answers : {T : Type 0} (result : Result T Stop) → IfErr result IsOfSaying → IfErr result IsOfAnswers

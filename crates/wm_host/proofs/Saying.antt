@@ -75,9 +75,6 @@ front_failed tells a b c bytes rest said failed more = record {
   only = λ t. subst (λ (out : List ℕ). OnlySaid a c out) (append-nil said.front) (said_more a b c said.front [] (said.only t) (failed t));
 }
 
-pub front_all : (tells : Type 0) (a b : History) (bytes rest : List ℕ) → SaidFront tells a b bytes rest → rest ≡ [] → tells → OnlySaid a b bytes
-front_all tells a b bytes rest said none t = subst (λ (out : List ℕ). OnlySaid a b out) (sym (said.is ∙ ap (λ (r : List ℕ). said.front ++ r) none ∙ append-nil said.front)) (said.only t)
-
 -- a say that took nothing said nothing
 pub said_none : (old new : History) (piece : List ℕ) (n : ℕ) → n ≡ 0 → new ≡ Said old piece n → OnlySaid old new []
 said_none old new piece n none told = subst (λ (m : ℕ). OnlySaid old new (take m piece)) none (said_once old new piece n told)

@@ -1,5 +1,6 @@
 pub mod Cause
 pub mod Crash
+pub mod Ends
 pub mod Hosting
 pub mod Loading
 pub mod Outcome

@@ -1,5 +1,5 @@
 -- What a run did with a script whose lines are answered from a state.
-use Rattle.std.specs.Prelude.{ℕ, ◌≡◌, ◌≤◌, ◌⊎◌, List, ◌∷◌, [], ◌++◌, length, Option, None, Some, codes}
+use Rattle.std.specs.Prelude.{ℕ, ◌≡◌, ◌≤◌, ◌⊎◌, List, ◌∷◌, [], ◌++◌, length, codes}
 use Rattle.wm_engine.specs.Working.{FileStands, HoldsSorted, IsSound, LeavesAlone, Tells}
 use Rattle.wm_station.specs.History.{History, Synced, now, said, Leaves}
 use Rattle.wm_station.specs.Moments.{During, Holds}
@@ -13,8 +13,6 @@ use Rattle.wm_host.specs.declared.ended.Place.{Place}
 use Rattle.wm_host.specs.declared.ended.Place.TheVariants.{Nowhere, Page}
 use Rattle.wm_store.specs.Opened.{HoldsAs}
 use Rattle.wm_spec.specs.declared.record.stored.Stored.{Stored}
-use Rattle.wm_words.specs.declared.command.Command.{Command}
-use Rattle.wm_words.specs.declared.command.Command.TheVariants.{Init, Run, Check, Load}
 
 -- these bytes were said, and no others
 abbrev pub HasSaid : History → History → List ℕ → Type 0
@@ -35,10 +33,6 @@ pub record HasSaidFront (old new : History) (bytes : List ℕ) : Type 0 where
 pub record Answered (old new : History) (s : State) (script_lines : List (List ℕ)) : Type 0 where
   pub says : HasSaid old new (transcript s script_lines)
   pub stands : Holds new (λ file. FileStands file (after s script_lines))
-
--- a front of the answers to these lines was said, and nothing else
-abbrev pub FrontOfRun : History → History → State → List (List ℕ) → Type 0
-FrontOfRun old new s script_lines = HasSaidFront old new (transcript s script_lines)
 
 -- so many of these lines were answered whole, the next at most in part, and nothing else was said
 pub record AnswersSome (old new : History) (s : State) (script_lines : List (List ℕ)) (count : ℕ) : Type 0 where
@@ -101,54 +95,6 @@ abbrev pub IsUnwritten : Place → Type 0
 IsUnwritten Nowhere = ⊥
 IsUnwritten (Page number kind) = LeavesAlone (Damaged number kind)
 
--- Q holds of the moment of `run`
-abbrev pub OfRun : Option Command → (ℕ → Type 0) → Type 0
-OfRun None Q = Unit {0}
-OfRun (Some (Init limit)) Q = Unit {0}
-OfRun (Some (Run moment)) Q = Q moment
-OfRun (Some Check) Q = Unit {0}
-OfRun (Some (Load seed count)) Q = Unit {0}
-
--- Q holds of the limit of `init`
-abbrev pub OfInit : Option Command → (ℕ → Type 0) → Type 0
-OfInit None Q = Unit {0}
-OfInit (Some (Init limit)) Q = Q limit
-OfInit (Some (Run moment)) Q = Unit {0}
-OfInit (Some Check) Q = Unit {0}
-OfInit (Some (Load seed count)) Q = Unit {0}
-
--- Q holds where the command is `check`
-abbrev pub OfCheck : Option Command → Type 0 → Type 0
-OfCheck None Q = Unit {0}
-OfCheck (Some (Init limit)) Q = Unit {0}
-OfCheck (Some (Run moment)) Q = Unit {0}
-OfCheck (Some Check) Q = Q
-OfCheck (Some (Load seed count)) Q = Unit {0}
-
--- Q holds of the number and of the count of lines of `load`
-abbrev pub OfLoad : Option Command → (ℕ → ℕ → Type 0) → Type 0
-OfLoad None Q = Unit {0}
-OfLoad (Some (Init limit)) Q = Unit {0}
-OfLoad (Some (Run moment)) Q = Unit {0}
-OfLoad (Some Check) Q = Unit {0}
-OfLoad (Some (Load seed count)) Q = Q seed count
-
--- Q holds of each state at which `run` begins: the file stands for it, but for its sessions and its moment
-abbrev pub FromEach : Option Command → History → (State → Type 0) → Type 0
-FromEach command old Q = OfRun command (λ moment. (s : State) → FileStands (now old) s → Q (begin s moment))
-
 -- the lines that `load` runs: those of the script that the number draws
 unfoldable pub load_lines : ℕ → ℕ → List (List ℕ)
 load_lines seed count = lines (script seed count)
-
--- Q holds of each state at which `load` begins, at the store's last moment, and of the lines that it runs
-abbrev pub LoadsEach : Option Command → History → (State → List (List ℕ) → Type 0) → Type 0
-LoadsEach command old Q = OfLoad command (λ seed count. (s : State) → FileStands (now old) s → Q (begin s 0) (load_lines seed count))
-
--- the statuses that a command can end with
-abbrev pub statuses_of : Option Command → List ℕ
-statuses_of None = 2 ∷ 10 ∷ []
-statuses_of (Some (Init limit)) = 0 ∷ 4 ∷ 5 ∷ 8 ∷ 10 ∷ []
-statuses_of (Some (Run moment)) = 0 ∷ 3 ∷ 4 ∷ 5 ∷ 6 ∷ 7 ∷ 9 ∷ 10 ∷ 11 ∷ []
-statuses_of (Some Check) = 0 ∷ 4 ∷ 5 ∷ 6 ∷ 7 ∷ 10 ∷ []
-statuses_of (Some (Load seed count)) = 0 ∷ 4 ∷ 5 ∷ 6 ∷ 7 ∷ 10 ∷ 11 ∷ []

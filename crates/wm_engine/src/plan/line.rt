@@ -5,6 +5,7 @@ ghost use Rattle.wm_syntax.specs.Views.{line_view};
 ghost use Rattle.wm_plan.specs.Forks.{AreForks};
 ghost use Rattle.wm_engine.specs.ForkLines.{is_fork, is_fork_line};
 ghost use Rattle.wm_engine.specs.NetLines.{nets_into, nets_of_line};
+ghost use Rattle.wm_engine.specs.Performing.{PerformsAt};
 ghost use Rattle.wm_plan.specs.Idle.{Idles, StaysAt};
 ghost use Rattle.wm_plan.specs.Planning.{DoesTimed};
 ghost use Rattle.wm_engine.specs.Timely.{IsTimely};
@@ -17,6 +18,7 @@ ghost use Rattle.wm_spending.specs.Nets.{AreNets, Net};
 use crate::plan::statement::run;
 use std::alloc::Global;
 use wm_base::{Instant, Memory};
+use wm_ground::ground::Ground;
 use wm_image::Image;
 use wm_parser::{ParseFault, discard, parse};
 use wm_plan::answer::Answer;
@@ -25,7 +27,7 @@ use wm_plan::refuse::{bad_literal, no_text, syntax, too_long_line};
 use wm_plan::session::Session;
 use wm_reader::{is_remark, is_text};
 use wm_space::at::at_moment;
-use wm_space::connect::{connect, disconnect};
+use wm_space::connect::{connect_plan, disconnect_plan};
 use wm_syntax::line::Line;
 use wm_timed::set_moment;
 
@@ -33,36 +35,24 @@ use wm_timed::set_moment;
 const LINE_LIMIT: usize = 16_384;
 
 /// What a line of the grammar does and answers.
-fn plan_line(
-    alloc: Global,
-    image: &Image,
-    sessions: &[Session],
-    moment: u64,
-    line: &Line,
-) -> Result<Timed, Memory>
-    requires rules { keep_rules (parts_of image.now) ≡ true }
-    requires moment { moment < END }
+fn plan_line(alloc: Global, ground: Ground<'_>, line: &Line) -> Result<Timed, Memory>
     // AT sets a moment below the end.
     requires timely { IsTimely (line_view line.now) }
-    ensures does { IfOk result (λ t. DoesTimed image.now sessions.now moment t (run_line (line_view line.now))) }
-    ensures moment { IfOk result (λ t. t.moment < END) }
-    ensures idle { IfOk result (λ t. Idles t.planned) }
-    ensures stays { IfOk result (StaysAt moment) }
-    ensures few { is_fork_line (line_view line.now) ≡ true → IfOk result (λ t. AreForks t.planned) }
-    ensures nets { (net : Net) → nets_of_line (line_view line.now) ≡ Some net → IfOk result (λ t. AreNets image.now net t.planned.edits.items) }
+    ensures { IfOk result (PerformsAt ground.entry (run_line (line_view line.now)) (is_fork_line (line_view line.now)) (nets_of_line (line_view line.now))) }
 {
+    let moment = ground.moment;
     match line {
         Line::Connect { session, user } => {
-            let planned = connect(alloc, sessions, session, user)?;
+            let planned = connect_plan(alloc, ground, session, user)?;
             Ok(Timed { planned, moment })
         }
         Line::Disconnect { session } => {
-            let planned = disconnect(alloc, sessions, session)?;
+            let planned = disconnect_plan(alloc, ground, session)?;
             Ok(Timed { planned, moment })
         }
         Line::At(instant) => Ok(at_moment(alloc, moment, *instant)),
         Line::Run { session, statement } => {
-            let planned = run(alloc, image, sessions, moment, session, statement)?;
+            let planned = run(alloc, ground, session, statement)?;
             Ok(Timed { planned, moment })
         }
     }
@@ -78,50 +68,25 @@ fn set_moment_in(alloc: Global, line: &mut Line, moment: Instant)
 }
 
 /// What a line that was read does and answers.
-fn plan_read(
-    alloc: Global,
-    image: &Image,
-    sessions: &[Session],
-    moment: u64,
-    line: &mut Line,
-) -> Result<Timed, Memory>
-    requires rules { keep_rules (parts_of image.now) ≡ true }
-    requires moment { moment < END }
+fn plan_read(alloc: Global, ground: Ground<'_>, line: &mut Line) -> Result<Timed, Memory>
     // AT sets a moment below the end.
     requires timely { IsTimely (line_view line.old) }
-    ensures does { IfOk result (λ t. DoesTimed image.now sessions.now moment t (run_parsed (Read (line_view line.old)))) }
-    ensures moment { IfOk result (λ t. t.moment < END) }
-    ensures idle { IfOk result (λ t. Idles t.planned) }
-    ensures stays { IfOk result (StaysAt moment) }
-    ensures few { is_fork_line (line_view line.old) ≡ true → IfOk result (λ t. AreForks t.planned) }
-    ensures nets { (net : Net) → nets_of_line (line_view line.old) ≡ Some net → IfOk result (λ t. AreNets image.now net t.planned.edits.items) }
+    ensures { IfOk result (PerformsAt ground.entry (run_parsed (Read (line_view line.old))) (is_fork_line (line_view line.old)) (nets_of_line (line_view line.old))) }
 {
-    let now = Instant::new(moment).unwrap();
+    let now = Instant::new(ground.moment).unwrap();
     set_moment_in(alloc, line, now);
-    plan_line(alloc, image, sessions, moment, line)
+    plan_line(alloc, ground, line)
 }
 
 /// What a line of plain text that fits and is no remark does and answers.
-fn plan_text(
-    alloc: Global,
-    image: &Image,
-    sessions: &[Session],
-    moment: u64,
-    text: &[u8],
-) -> Result<Timed, Memory>
-    requires rules { keep_rules (parts_of image.now) ≡ true }
-    requires moment { moment < END }
+fn plan_text(alloc: Global, ground: Ground<'_>, text: &[u8]) -> Result<Timed, Memory>
     requires fits { length text.now ≤ 16384 }
-    ensures does { IfOk result (λ t. DoesTimed image.now sessions.now moment t (run_parsed (parsed text.now))) }
-    ensures moment { IfOk result (λ t. t.moment < END) }
-    ensures idle { IfOk result (λ t. Idles t.planned) }
-    ensures stays { IfOk result (StaysAt moment) }
-    ensures few { is_fork (parsed text.now) ≡ true → IfOk result (λ t. AreForks t.planned) }
-    ensures nets { (net : Net) → nets_into (parsed text.now) ≡ Some net → IfOk result (λ t. AreNets image.now net t.planned.edits.items) }
+    ensures { IfOk result (PerformsAt ground.entry (run_parsed (parsed text.now)) (is_fork (parsed text.now)) (nets_into (parsed text.now))) }
 {
+    let moment = ground.moment;
     match parse(alloc, text) {
         Ok(mut line) => {
-            let planned = plan_read(alloc, image, sessions, moment, &mut line);
+            let planned = plan_read(alloc, ground, &mut line);
             discard(line);
             planned
         }
@@ -161,5 +126,10 @@ pub fn plan(
     if !is_text(text) {
         return Ok(Timed::answered(alloc, moment, no_text()));
     }
-    plan_text(alloc, image, sessions, moment, text)
+    let ground = Ground {
+        image,
+        sessions,
+        moment,
+    };
+    plan_text(alloc, ground, text)
 }

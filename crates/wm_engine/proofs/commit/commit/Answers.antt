@@ -1,4 +1,4 @@
-use Rattle.std.proofs.Common.{[], refl, sym, subst, ◌∙◌, arith}
+use Rattle.std.proofs.Common.{[], refl, sym, subst, ◌∙◌, arith, rules}
 use Rattle.std.proofs.lemmas.Result.{err_from_is_err_and}
 use Rattle.wm_engine.specs.Working.{KeepsOver}
 use Rattle.wm_state.specs.ById.{applied}
@@ -38,10 +38,14 @@ returns-clause-nothing g c = λ told none. absurd (some_counted c.as_slice.resul
 pub returns-clause-same_store : goal.returns-clause-same_store
 returns-clause-same_store g c = λ none. absurd (some_counted c.as_slice.result.now c.if-is_empty.ensures (c.as_slice.ensures ∙ none))
 
-pub returns-in_err-commit-clause-cause : goal.returns-in_err-commit-clause-cause
-returns-in_err-commit-clause-cause g c =
+pub returns-in_err-commit-clause-faults : goal.returns-in_err-commit-clause-faults
+returns-in_err-commit-clause-faults g c =
     let p = err_from_is_err_and c.from_residual.result c.from_residual.ensures.1 in
-    rw (p.1, p.2) (line_cause (g.P.Station.disk_faults c.args.station.now) (g.P.Station.disk_faults c.commit.new.station) c.in_err-commit.field-0.0 c.in_err-commit.ensures.cause)
+    record {
+      cause = rw (p.1, p.2) (line_cause (g.P.Station.disk_faults c.args.station.now) (g.P.Station.disk_faults c.commit.new.station) c.in_err-commit.field-0.0 c.in_err-commit.ensures.cause);
+      say_quiet = search rules;
+      unchanged = search rules;
+    }
 
 -- ---- how many pages
 

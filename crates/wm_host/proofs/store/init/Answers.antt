@@ -1,50 +1,58 @@
-use Rattle.std.proofs.Common.{Err, ⊎_elim, refl}
+use Rattle.std.proofs.Common.{Err, ⊎_elim, refl, rules}
 use Rattle.wm_host.specs.declared.stop.Stop.TheVariants.{SayFault, DiskFault, Exists, Memory}
 use Rattle.wm_host.proofs.Ending.{at_done, at_status}
 use Rattle.wm_host.proofs.Making.{statuses_of_making, place_of_making}
 use Rattle.wm_host.proofs.store.init.Goals as goal
 
-pub returns-clause-done : goal.returns-clause-done
-returns-clause-done g c = λ zero t. at_done c.make_store.result c.of.result.status c.of.ensures.status zero (c.make_store.ensures.done t)
+pub returns-clause-ends : goal.returns-clause-ends
+returns-clause-ends g c = record {
+  done = λ zero t. at_done c.make_store.result c.of.result.status c.of.ensures.status zero (c.make_store.ensures.done t);
+  front = search rules;
+  unsaid = λ five t. c.make_store.ensures.unsaid t (at_status c.make_store.result (Err DiskFault) c.of.result.status c.of.ensures.status five refl);
+  made = λ either t.
+      ⊎_elim
+      (λ zero. at_done c.make_store.result c.of.result.status c.of.ensures.status zero (c.make_store.ensures.made t))
+      (λ four. c.make_store.ensures.made_unsaid t (at_status c.make_store.result (Err SayFault) c.of.result.status c.of.ensures.status four refl))
+      either;
+  absent = λ either t.
+      ⊎_elim
+      (λ zero. at_done c.make_store.result c.of.result.status c.of.ensures.status zero (c.make_store.ensures.absent t))
+      (λ four. c.make_store.ensures.absent_unsaid t (at_status c.make_store.result (Err SayFault) c.of.result.status c.of.ensures.status four refl))
+      either;
+  kept = search rules;
+  statuses = statuses_of_making c.make_store.result c.of.result.status c.of.ensures.status c.make_store.ensures.making;
+  lines = search rules;
+  place = rw c.of.ensures.place (place_of_making c.make_store.result c.make_store.ensures.making);
+}
 
-pub returns-clause-made : goal.returns-clause-made
-returns-clause-made g c = λ either t.
-    ⊎_elim
-    (λ zero. at_done c.make_store.result c.of.result.status c.of.ensures.status zero (c.make_store.ensures.made t))
-    (λ four. c.make_store.ensures.made_unsaid t (at_status c.make_store.result (Err SayFault) c.of.result.status c.of.ensures.status four refl))
-    either
+pub returns-clause-store : goal.returns-clause-store
+returns-clause-store g c =
+    let among = statuses_of_making c.make_store.result c.of.result.status c.of.ensures.status c.make_store.ensures.making in
+    record {
+      not_store = search (rules, among);
+      synced = search (rules, among);
+      damaged = search (rules, among);
+      place = c.of.ensures.page;
+      unwritten = rw (c.of.ensures.place, place_of_making c.make_store.result c.make_store.ensures.making) (search rules);
+      sound = search (rules, among);
+      unsaid = search (rules, among);
+      unopened = search (rules, among);
+      pages = search (rules, among);
+      pages_any_moment = search (rules, among);
+      exists = λ eight t. c.make_store.ensures.exists t (at_status c.make_store.result (Err Exists) c.of.result.status c.of.ensures.status eight refl);
+      unchanged = search (rules, among);
+    }
 
-pub returns-clause-absent : goal.returns-clause-absent
-returns-clause-absent g c = λ either t.
-    ⊎_elim
-    (λ zero. at_done c.make_store.result c.of.result.status c.of.ensures.status zero (c.make_store.ensures.absent t))
-    (λ four. c.make_store.ensures.absent_unsaid t (at_status c.make_store.result (Err SayFault) c.of.result.status c.of.ensures.status four refl))
-    either
-
-pub returns-clause-exists : goal.returns-clause-exists
-returns-clause-exists g c = λ eight t. c.make_store.ensures.exists t (at_status c.make_store.result (Err Exists) c.of.result.status c.of.ensures.status eight refl)
-
-pub returns-clause-unsaid : goal.returns-clause-unsaid
-returns-clause-unsaid g c = λ five t. c.make_store.ensures.unsaid t (at_status c.make_store.result (Err DiskFault) c.of.result.status c.of.ensures.status five refl)
-
-pub returns-clause-say : goal.returns-clause-say
-returns-clause-say g c = λ four. c.make_store.ensures.say_failed (at_status c.make_store.result (Err SayFault) c.of.result.status c.of.ensures.status four refl)
-
-pub returns-clause-disk : goal.returns-clause-disk
-returns-clause-disk g c = λ five. c.make_store.ensures.disk_failed (at_status c.make_store.result (Err DiskFault) c.of.result.status c.of.ensures.status five refl)
-
-pub returns-clause-statuses : goal.returns-clause-statuses
-returns-clause-statuses g c = statuses_of_making c.make_store.result c.of.result.status c.of.ensures.status c.make_store.ensures.making
-
-pub returns-clause-place : goal.returns-clause-place
-returns-clause-place g c = rw c.of.ensures.place (place_of_making c.make_store.result c.make_store.ensures.making)
-
-pub returns-clause-say_kept : goal.returns-clause-say_kept
-returns-clause-say_kept g c = λ zero. at_done c.make_store.result c.of.result.status c.of.ensures.status zero c.make_store.ensures.say_kept
-
-pub returns-clause-disk_kept : goal.returns-clause-disk_kept
-returns-clause-disk_kept g c = λ either.
-    ⊎_elim
-    (λ zero. at_done c.make_store.result c.of.result.status c.of.ensures.status zero c.make_store.ensures.disk_kept)
-    (λ ten. c.make_store.ensures.disk_spared (at_status c.make_store.result (Err Memory) c.of.result.status c.of.ensures.status ten refl))
-    either
+pub returns-clause-faults : goal.returns-clause-faults
+returns-clause-faults g c = record {
+  say = λ four. c.make_store.ensures.say_failed (at_status c.make_store.result (Err SayFault) c.of.result.status c.of.ensures.status four refl);
+  disk = λ five. c.make_store.ensures.disk_failed (at_status c.make_store.result (Err DiskFault) c.of.result.status c.of.ensures.status five refl);
+  say_kept = λ zero. at_done c.make_store.result c.of.result.status c.of.ensures.status zero c.make_store.ensures.say_kept;
+  disk_kept = λ either.
+      ⊎_elim
+      (λ zero. at_done c.make_store.result c.of.result.status c.of.ensures.status zero c.make_store.ensures.disk_kept)
+      (λ ten. c.make_store.ensures.disk_spared (at_status c.make_store.result (Err Memory) c.of.result.status c.of.ensures.status ten refl))
+      either;
+  say_later = search rules;
+  disk_later = search rules;
+}

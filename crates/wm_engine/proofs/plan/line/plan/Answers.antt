@@ -6,6 +6,7 @@ use Rattle.wm_grammar.specs.Parsed.{parsed}
 use Rattle.wm_plan.proofs.Planning.{told_alone, timed_same}
 use Rattle.wm_plan.specs.Views.{answer_view, seating_view}
 use Rattle.wm_spending.specs.Nets.{Nothing}
+use Rattle.wm_engine.proofs.Performing.{if_timed}
 use Rattle.wm_engine.proofs.plan.line.plan.Goals as goal
 
 long : (n : ℕ) → 16384 < n → nat_le n 16384 ≡ false
@@ -39,7 +40,22 @@ unfolding step
 returns-clause-does c =
     let text = c.args.text.now in
     timed_same c.args.image.now c.args.sessions.now c.args.moment c.plan_text.result (run_parsed (parsed text)) (λ s. step s text)
-    (λ s st. rw (short (length text) c.if-text-gt-LINE_LIMIT.false, sym c.if-is_remark.ensures, sym c.if-not-is_text.ensures) refl) c.plan_text.ensures.does
+    (λ s st. rw (short (length text) c.if-text-gt-LINE_LIMIT.false, sym c.if-is_remark.ensures, sym c.if-not-is_text.ensures) refl) (if_timed c.plan_text.result _ _ (λ t h. h.does) c.plan_text.ensures)
+
+pub returns-clause-moment : goal.returns-clause-moment
+returns-clause-moment c = if_timed c.plan_text.result _ _ (λ t h. h.moment) c.plan_text.ensures
+
+pub returns-clause-idle : goal.returns-clause-idle
+returns-clause-idle c = if_timed c.plan_text.result _ _ (λ t h. h.idle) c.plan_text.ensures
+
+pub returns-clause-stays : goal.returns-clause-stays
+returns-clause-stays c = if_timed c.plan_text.result _ _ (λ t h. h.stays) c.plan_text.ensures
+
+pub returns-clause-few : goal.returns-clause-few
+returns-clause-few c = λ forks. if_timed c.plan_text.result _ _ (λ t h. h.few forks) c.plan_text.ensures
+
+pub returns-clause-nets : goal.returns-clause-nets
+returns-clause-nets c = λ net named. if_timed c.plan_text.result _ _ (λ t h. h.nets net named) c.plan_text.ensures
 
 -- ---- lines that refresh or merge
 
