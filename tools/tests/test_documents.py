@@ -58,11 +58,17 @@ class Documents(unittest.TestCase):
             self.assertEqual([part for part in parts if not re.search(DECLARED.format(part), code)], [], crates)
         self.assertEqual(sorted(listed), sorted(name for name in used() if not name.endswith("_tests")))
 
-    def test_clauses_of_the_headline(self):
+    def test_promises_of_the_headline(self):
+        """Each field of the records that say how commands end, but those that hold another record, and no other name."""
         headline = (DOCS / "PROVED.md").read_text().partition("\n## Crate by crate\n")[0]
-        told = [name for names in re.findall(r"^- ([^:]*):", headline, re.MULTILINE) for name in quoted(names)]
-        code = (CRATES / "wm_host" / "src" / "command.rt").read_text()
-        self.assertEqual(sorted(told), sorted(re.findall(r"^\s*ensures (\w+) ", code, re.MULTILINE)))
+        told = {name for names in re.findall(r"^ *- ([^:]*):", headline, re.MULTILINE) for name in quoted(names)}
+        text = (CRATES / "wm_host" / "specs" / "Ends.antt").read_text()
+        fields = set(re.findall(r"^ +pub (\w+) :", text, re.MULTILINE))
+        records = set(re.findall(r"^ *(?:abbrev )?pub (?:record )?([A-Z]\w+) ", text, re.MULTILINE))
+        held = {"command_ends", "store", "source_is", "faults", "keeps", "statuses"}
+        untouched = {"status", "source", "station", "lines"}
+        self.assertEqual(fields - held - untouched - told, set())
+        self.assertEqual(told - fields - records - {"init", "run", "check", "load"}, set())
 
     def test_paths_are_there(self):
         for document in (TOP / "README.md", *DOCS.glob("*.md")):
