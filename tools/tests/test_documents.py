@@ -59,16 +59,24 @@ class Documents(unittest.TestCase):
         self.assertEqual(sorted(listed), sorted(name for name in used() if not name.endswith("_tests")))
 
     def test_promises_of_the_headline(self):
-        """Each field of the records that say how commands end, but those that hold another record, and no other name."""
-        headline = (DOCS / "PROVED.md").read_text().partition("\n## Crate by crate\n")[0]
-        told = {name for names in re.findall(r"^ *- ([^:]*):", headline, re.MULTILINE) for name in quoted(names)}
+        """Each field of the records that say how commands end, record by record, but those that hold another record."""
         text = (CRATES / "wm_host" / "specs" / "Ends.antt").read_text()
-        fields = set(re.findall(r"^ +pub (\w+) :", text, re.MULTILINE))
-        records = set(re.findall(r"^ *(?:abbrev )?pub (?:record )?([A-Z]\w+) ", text, re.MULTILINE))
-        held = {"command_ends", "store", "source_is", "faults", "keeps", "statuses"}
-        untouched = {"status", "source", "station", "lines"}
-        self.assertEqual(fields - held - untouched - told, set())
-        self.assertEqual(told - fields - records - {"init", "run", "check", "load"}, set())
+        parts = re.split(r"^ *pub record (\w+) ", text, flags=re.MULTILINE)
+        declared = re.compile(r"^ +pub (\w+) :", re.MULTILINE)
+        fields = {name: set(declared.findall(part)) for name, part in zip(parts[1::2], parts[2::2])}
+        headline = (DOCS / "PROVED.md").read_text().partition("\n## Crate by crate\n")[0]
+        shared = set()
+        for item in re.split(r"^- ", headline, flags=re.MULTILINE)[1:]:
+            names = quoted(item.partition(":")[0])
+            told = {name for line in re.findall(r"^  - ([^:]*):", item, re.MULTILINE) for name in quoted(line)}
+            if names[0] not in fields:
+                shared.update(names)
+            elif told:
+                own = fields.pop(names[0]) - {"statuses"}
+                expected = own - {"keeps"} | (fields["KeepsSound"] if "keeps" in own else set())
+                self.assertEqual(told - set(fields), expected, names[0])
+        expected = set().union(*(fields[name] for name in ("StoreTells", "FaultsTell", "SourceTells", "Ends")))
+        self.assertEqual(shared - set(fields), expected - {"command_ends", "store", "source_is", "faults"})
 
     def test_paths_are_there(self):
         for document in (TOP / "README.md", *DOCS.glob("*.md")):
